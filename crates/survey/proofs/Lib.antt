@@ -1,0 +1,6 @@
+pub mod Tables
+pub mod Lists
+pub mod Walks
+pub mod Fences
+pub mod Edges
+pub mod Judging

@@ -1,0 +1,5 @@
+pub mod Lists
+pub mod Tables
+pub mod Surveys
+pub mod Views
+pub mod Plans
