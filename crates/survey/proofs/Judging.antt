@@ -1,11 +1,11 @@
 -- What judging accepts keeps the rules, and what keeps them is accepted.
-use mathlib.Core.Path.{_≡_, refl, sym, _∙_, ap}
-use mathlib.Core.Bool.{Bool, true, false, _&&_, not}
-use mathlib.Core.Logic.{_⊎_, inl, inr}
-use Prim.Native.Nat.{ℕ, _+_, _≤_, _<_}
+use mathlib.Core.Path.{_≡_, sym, _∙_, ap}
+use mathlib.Core.Bool.{true, false, _&&_, not, and-not-self}
+use Prim.Native.Nat.{ℕ, _≤_}
 use native.Mathlib.Omega.{arith}
 use lib.ListN.{length}
-use Rattle.std.proofs.shelf.Tests.{and-parts, and-from, leb-true, le-leb, cond-true, cond-false, cases-bool, both-ways, not-false}
+use Rattle.std.proofs.shelf.Tests.{and-parts, and-from, leb-true, le-leb, cond-true, cond-false, not-false}
+use Rattle.std.proofs.shelf.Ways.{same-from-decides}
 use Rattle.refusal.specs.Outcomes.{accepted}
 use Rattle.refusal.proofs.Outcomes.{taken-parts, left-parts, same-from-accepted}
 use Rattle.survey.specs.Surveys.{Survey, sensors, edges, triangles, everyone, steps, all-linked, distinct, nobody, one-sided, judged, Valid}
@@ -56,29 +56,20 @@ abbrev pub Inside : Survey → Type 0
 Inside s = (x y : ℕ) → s .linked x y ≡ true → (1 ≤ x) × (x ≤ s .count) × (1 ≤ y) × (y ≤ s .count)
 
 pub one-sided-false : (s : Survey) → Symmetric s → one-sided s ≡ false
-one-sided-false s h = any-false _ (sensors s) (λ x. any-false _ (sensors s) (λ y. ap (λ b. b && not (s .linked y x)) (h x y) ∙ never (s .linked y x)))
-  where
-    never : (b : Bool) → (b && not b) ≡ false
-    never true = refl
-    never false = refl
+one-sided-false s h =
+    any-false _ (sensors s) (λ x. any-false _ (sensors s) (λ y. ap (λ b. b && not (s .linked y x)) (h x y) ∙ and-not-self (s .linked y x)))
+
+-- what x names is a sensor, so the test looked at the pair
+linked-back : (s : Survey) → Inside s → one-sided s ≡ false → (x y : ℕ) → s .linked x y ≡ true → s .linked y x ≡ true
+linked-back s h none x y e =
+    let at = h x y e in
+    let row = any-none _ (sensors s) x none (member-numbers x 1 (s .count) (at .0) (omega arith)) in
+    let pair = any-none _ (sensors s) y row (member-numbers y 1 (s .count) (at .2) (omega arith)) in
+    not-false _ (ap (λ b. b && not (s .linked y x)) (sym e) ∙ pair)
 
 pub symmetric-from : (s : Survey) → Inside s → one-sided s ≡ false → Symmetric s
-symmetric-from s h none x y = same (s .linked x y) (s .linked y x) (λ e. back x y e) (λ e. back y x e)
-  where
-    holds : (a b : Bool) → (a && not b) ≡ false → a ≡ true → b ≡ true
-    holds true b e t = not-false b e
-    holds false b e t = absurd (both-ways _ refl t)
-
-    back : (x y : ℕ) → s .linked x y ≡ true → s .linked y x ≡ true
-    back x y e =
-        let at = h x y e in
-        let row = any-none _ (sensors s) x none (member-numbers x 1 (s .count) (at .0) (omega arith)) in
-        holds (s .linked x y) (s .linked y x) (any-none _ (sensors s) y row (member-numbers y 1 (s .count) (at .2) (omega arith))) e
-
-    same : (a b : Bool) → (a ≡ true → b ≡ true) → (b ≡ true → a ≡ true) → a ≡ b
-    same true b f g = sym (f refl)
-    same false true f g = g refl
-    same false false f g = refl
+symmetric-from s h none x y =
+    same-from-decides (s .linked x y) (s .linked y x) (linked-back s h none x y, linked-back s h none y x) ((λ e. e), (λ e. e))
 
 pub valid-from : (s : Survey) → 3 ≤ s .count → s .count ≤ 64 → Inside s → ((x : ℕ) → s .linked x x ≡ false) → Judged s → Valid s
 valid-from s least most inside apart j = record {

@@ -2,13 +2,17 @@
 use mathlib.Core.Path.{_≡_, refl, sym, _∙_, ap, ap₂}
 use mathlib.Core.List.{List, [], _∷_, _++_}
 use mathlib.Core.Bool.{Bool, true, false, cond, _&&_, _||_}
-use mathlib.Core.Logic.{_⊎_, inl, inr}
+use mathlib.Core.Logic.{inl, inr}
 use Prim.Native.Nat.{ℕ, zero, suc, _+_, _≤_, _<_}
 use native.Mathlib.Omega.{arith}
-use lib.Dec.{eqb, leb, ltb}
+use lib.Dec.{eqb}
 use lib.ListN.{length, length-append}
-use Rattle.std.proofs.shelf.Tests.{cases-eq, eq-eqb, eqb-true, ne-eqb, le-leb, lt-ltb, lt-leb, or-left, or-right, or-from, or-parts, or-cases, and-parts, and-right, and-left, both-ways}
+use Rattle.std.proofs.shelf.Tests.{cases-eq, eq-eqb, eqb-true, or-left, or-right, or-from, or-parts, or-cases, and-right, both-ways}
 use Rattle.survey.specs.Lists.{numbers, gather, member, any}
+
+pub false-from : (t : Bool) → (t ≡ true → ⊥) → t ≡ false
+false-from true h = absurd (h refl)
+false-from false h = refl
 
 -- runs of numbers
 
@@ -74,7 +78,6 @@ pub sum-ap : {A : Type 0} (f g : A → ℕ) (xs : List A) → ((x : A) → f x �
 sum-ap f g [] h = refl
 sum-ap f g (x ∷ xs) h = ap₂ _+_ (h x) (sum-ap f g xs h)
 
--- a gathering of at most one each, as many as the test holds of
 pub length-cond : {A : Type 0} (t : Bool) (x : A) → length (cond t (x ∷ []) []) ≡ cond t 1 0
 length-cond true x = refl
 length-cond false x = refl
