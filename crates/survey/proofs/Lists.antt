@@ -38,6 +38,16 @@ gather-same f g k (suc n) h =
 abbrev pub sift : (ℕ → Bool) → List ℕ → List ℕ
 sift f = gather (λ x. cond (f x) (x ∷ []) [])
 
+-- one element more at the end
+pub member-push : (b y : ℕ) (xs : List ℕ) → member b (xs ++ y ∷ []) ≡ (eqb b y || member b xs)
+member-push b y [] = refl
+member-push b y (x ∷ xs) = ap (λ t. eqb b x || t) (member-push b y xs) ∙ swap (eqb b x) (eqb b y) (member b xs)
+  where
+    swap : (p q r : Bool) → (p || (q || r)) ≡ (q || (p || r))
+    swap true true r = refl
+    swap true false r = refl
+    swap false q r = refl
+
 pub member-sift : (f : ℕ → Bool) (y : ℕ) (xs : List ℕ) → member y (sift f xs) ≡ (member y xs && f y)
 member-sift f y [] = refl
 member-sift f y (x ∷ xs) = go (f x) (eqb y x) refl refl (member-sift f y xs)

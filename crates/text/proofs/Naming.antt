@@ -13,20 +13,12 @@ use Rattle.refusal.specs.Outcomes.{Outcome, accepted, refused}
 use Rattle.refusal.proofs.Outcomes.{refused-accepted, taken-parts, same-from-accepted}
 use Rattle.survey.specs.declared.neighbours.Neighbours.{Neighbours}
 use Rattle.survey.specs.Lists.{member}
+use Rattle.survey.proofs.Lists.{member-push}
 use Rattle.survey.specs.Surveys.{Survey}
 use Rattle.survey.specs.Tables.{at}
 use Rattle.survey.specs.Views.{drawn, naming, two-sensors, with-name}
 use Rattle.text.specs.Reading.{rising}
 use Rattle.text.specs.Lines.{NamesAll}
-
-member-push : (b y : ℕ) (xs : List ℕ) → member b (xs ++ y ∷ []) ≡ (eqb b y || member b xs)
-member-push b y [] = refl
-member-push b y (x ∷ xs) = ap (λ t. eqb b x || t) (member-push b y xs) ∙ swap (eqb b x) (eqb b y) (member b xs)
-  where
-    swap : (p q r : Bool) → (p || (q || r)) ≡ (q || (p || r))
-    swap true true r = refl
-    swap true false r = refl
-    swap false q r = refl
 
 -- the loop is at the place i of the list: the rest has to rise from the one before, and those passed are named
 pub record NamesOn (old now : Neighbours) (x before i : ℕ) (list : List ℕ) : Type 0 where
