@@ -1,6 +1,12 @@
-// A conversation: the text so far, the roster that was read, and the commands on them.
+// A conversation: the text so far, the roster that was read, the field that was chosen, and the commands on them.
 use crate::answers::{refused, show_roster, show_survey};
+use crate::fields::{AnyField, AnyFieldField};
 use crate::quote::{quoted, unquoted};
+use customer::gf4::Gf4;
+use customer::gf9::Gf9;
+use field::Field;
+use field::gf2::Gf2;
+use field::gfp::GfP;
 use std::io;
 use verifier::roster::Roster;
 use verifier::roster::calls::read;
@@ -9,10 +15,30 @@ use verifier::roster::calls::read;
 pub struct Session {
     pub text: Vec<u8>,
     pub roster: Option<Roster>,
+    pub field: Option<AnyField>,
 }
 
 fn unknown(rt: &LibcRuntime, line: &str) -> io::Result<()> {
     println!(rt, "what? {line}")
+}
+
+// A code; one above 65,535 counts as 65,535, which is no code of a field here.
+fn code(text: &str) -> Option<u16> {
+    match text.parse::<u64>() {
+        Ok(v) => Some(v.min(65535) as u16),
+        Err(_) => None,
+    }
+}
+
+// Two codes with a space between.
+fn two_codes(rest: &str) -> Option<(u16, u16)> {
+    let (a, b) = rest.split_once(" ")?;
+    Some((code(a)?, code(b)?))
+}
+
+// The number after "gfp ".
+fn modulus(rest: &str) -> Option<u16> {
+    code(rest.strip_prefix("gfp ")?)
 }
 
 impl Session {
@@ -25,6 +51,9 @@ impl Session {
             return match word {
                 "text" => self.add_text(rt, line, rest),
                 "write" => self.write(rt, line, rest),
+                "field" => self.choose_field(rt, line, rest),
+                "sum" | "product" => self.of_two(rt, line, word, rest),
+                "negative" | "inverse" => self.of_one(rt, line, word, rest),
                 _ => unknown(rt, line),
             };
         }
@@ -84,6 +113,55 @@ impl Session {
         match &self.roster {
             Some(roster) => show_roster(rt, roster),
             None => println!(rt, "no roster"),
+        }
+    }
+
+    fn choose_field(&mut self, rt: &LibcRuntime, line: &str, rest: &str) -> io::Result<()> {
+        match rest {
+            "gf2" => self.take_field(rt, AnyField::Two(Gf2)),
+            "gf4" => self.take_field(rt, AnyField::Four(Gf4)),
+            "gf9" => self.take_field(rt, AnyField::Nine(Gf9)),
+            _ => {
+                let Some(p) = modulus(rest) else {
+                    return unknown(rt, line);
+                };
+                match GfP::new(p) {
+                    Ok(field) => self.take_field(rt, AnyField::Prime(field)),
+                    Err(refusal) => refused(rt, refusal),
+                }
+            }
+        }
+    }
+
+    fn take_field(&mut self, rt: &LibcRuntime, field: AnyField) -> io::Result<()> {
+        let order = field.order();
+        self.field = Some(field);
+        println!(rt, "ok {order}")
+    }
+
+    fn of_two(&self, rt: &LibcRuntime, line: &str, word: &str, rest: &str) -> io::Result<()> {
+        let Some((a, b)) = two_codes(rest) else {
+            return unknown(rt, line);
+        };
+        match &self.field {
+            Some(field) => {
+                let code = if word == "sum" { field.sum(a, b) } else { field.product(a, b) };
+                println!(rt, "{code}")
+            }
+            None => println!(rt, "no field"),
+        }
+    }
+
+    fn of_one(&self, rt: &LibcRuntime, line: &str, word: &str, rest: &str) -> io::Result<()> {
+        let Some(a) = code(rest) else {
+            return unknown(rt, line);
+        };
+        match &self.field {
+            Some(field) => {
+                let code = if word == "negative" { field.negative(a) } else { field.inverse(a) };
+                println!(rt, "{code}")
+            }
+            None => println!(rt, "no field"),
         }
     }
 }

@@ -1,0 +1,3 @@
+-- Lemmas of the crate; those for other crates are `pub mod`.
+pub mod FourLaws
+pub mod NineLaws
