@@ -1,9 +1,13 @@
 // The field that was chosen last, one of several.
-use customer::gf4::{Gf4, Gf4Field};
-use customer::gf9::{Gf9, Gf9Field};
+use customer::gf4::Gf4;
+use customer::gf4::Gf4Field;
+use customer::gf9::Gf9;
+use customer::gf9::Gf9Field;
 use field::Field;
-use field::gf2::{Gf2, Gf2Field};
-use field::gfp::{GfP, GfPField};
+use field::gf2::Gf2;
+use field::gf2::Gf2Field;
+use field::gfp::GfP;
+use field::gfp::GfPField;
 ghost use denote.Ref.{now};
 ghost use mathlib.Core.Path.{_≡_};
 ghost use Rattle.hall.specs.Chosen.{chosen};

@@ -75,7 +75,13 @@ fn step(escape: Escape, b: u8) -> Option<(Escape, Option<u8>)> {
 }
 
 fn hex_digit(v: u8) -> char {
-    if v < 10 { (b'0' + v) as char } else if v < 16 { (b'a' + (v - 10)) as char } else { '?' }
+    if v < 10 {
+        (b'0' + v) as char
+    } else if v < 16 {
+        (b'a' + (v - 10)) as char
+    } else {
+        '?'
+    }
 }
 
 // Adds one byte as it stands between quotes.

@@ -1,7 +1,11 @@
 // A conversation: the text so far, the roster that was read, the field that was chosen, and the commands on them.
-use crate::answers::{refused, show_roster, show_survey};
-use crate::fields::{AnyField, AnyFieldField};
-use crate::quote::{quoted, unquoted};
+use crate::answers::refused;
+use crate::answers::show_roster;
+use crate::answers::show_survey;
+use crate::fields::AnyField;
+use crate::fields::AnyFieldField;
+use crate::quote::quoted;
+use crate::quote::unquoted;
 use customer::gf4::Gf4;
 use customer::gf9::Gf9;
 use field::Field;
@@ -145,7 +149,11 @@ impl Session {
         };
         match &self.field {
             Some(field) => {
-                let code = if word == "sum" { field.sum(a, b) } else { field.product(a, b) };
+                let code = if word == "sum" {
+                    field.sum(a, b)
+                } else {
+                    field.product(a, b)
+                };
                 println!(rt, "{code}")
             }
             None => println!(rt, "no field"),
@@ -158,7 +166,11 @@ impl Session {
         };
         match &self.field {
             Some(field) => {
-                let code = if word == "negative" { field.negative(a) } else { field.inverse(a) };
+                let code = if word == "negative" {
+                    field.negative(a)
+                } else {
+                    field.inverse(a)
+                };
                 println!(rt, "{code}")
             }
             None => println!(rt, "no field"),
