@@ -3,22 +3,35 @@ mod answers;
 mod fields;
 mod quote;
 mod session;
+mod storage;
 
+use session::Next;
 use session::Session;
 use std::io;
-use std::io::BufRead;
 use std::io::BufReader;
+use storage::Kind;
+use storage::with_dense;
 
+// At first there is a dense store of 8 bits over no bytes.
 fn main(rt: LibcRuntime) -> io::Result<()> {
-    let heap = rt.alloc();
+    let mut reader = BufReader::new(rt.stdin());
     let mut session = Session {
-        text: Vec::new(heap),
+        text: Vec::new(rt.alloc()),
         roster: None,
         field: None,
     };
-    for line in BufReader::new(rt.stdin()).lines(heap) {
-        let line = line?;
-        session.answer(&rt, line.as_str())?;
+    let mut kind = Kind::Dense(8, 0);
+    for turn in 0..u64::MAX {
+        if turn > 0 {
+            println!(rt, "ok")?;
+        }
+        let next = match kind {
+            Kind::Dense(width, size) => with_dense(&rt, &mut reader, &mut session, width, size)?,
+        };
+        match next {
+            Next::Stay | Next::End => return Ok(()),
+            Next::Remake(other) => kind = other,
+        }
     }
     Ok(())
 }

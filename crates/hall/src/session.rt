@@ -1,4 +1,4 @@
-// A conversation: the text so far, the roster that was read, the field that was chosen, and the commands on them.
+// A conversation: the text so far, the roster that was read, the field that was chosen, and the commands on them and on a store.
 use crate::answers::refused;
 use crate::answers::show_roster;
 use crate::answers::show_survey;
@@ -6,11 +6,19 @@ use crate::fields::AnyField;
 use crate::fields::AnyFieldField;
 use crate::quote::quoted;
 use crate::quote::unquoted;
+use crate::storage::Kind;
+use crate::storage::begin;
+use crate::storage::choose_store;
+use crate::storage::entry;
+use crate::storage::put;
+use crate::storage::shape;
 use customer::gf4::Gf4;
 use customer::gf9::Gf9;
 use field::Field;
 use field::gf2::Gf2;
 use field::gfp::GfP;
+use matrix::grid::Grid;
+use matrix::store::Store;
 use std::io;
 use verifier::roster::Roster;
 use verifier::roster::calls::read;
@@ -22,7 +30,15 @@ pub struct Session {
     pub field: Option<AnyField>,
 }
 
-fn unknown(rt: &LibcRuntime, line: &str) -> io::Result<()> {
+// What comes after a line: more lines, or a store of another kind.
+#[derive(Clone, Copy)]
+pub enum Next {
+    Stay,
+    Remake(Kind),
+    End,
+}
+
+pub fn unknown(rt: &LibcRuntime, line: &str) -> io::Result<()> {
     println!(rt, "what? {line}")
 }
 
@@ -47,20 +63,36 @@ fn modulus(rest: &str) -> Option<u16> {
 
 impl Session {
     // Answers one line.
-    pub fn answer(&mut self, rt: &LibcRuntime, line: &str) -> io::Result<()> {
+    pub fn answer<S: Store>(
+        &mut self,
+        rt: &LibcRuntime,
+        store: &mut S,
+        line: &str,
+    ) -> io::Result<Next> {
         if line.starts_with("#") {
-            return Ok(());
+            return Ok(Next::Stay);
         }
-        if let Some((word, rest)) = line.split_once(" ") {
-            return match word {
-                "text" => self.add_text(rt, line, rest),
-                "write" => self.write(rt, line, rest),
-                "field" => self.choose_field(rt, line, rest),
-                "sum" | "product" => self.of_two(rt, line, word, rest),
-                "negative" | "inverse" => self.of_one(rt, line, word, rest),
-                _ => unknown(rt, line),
-            };
+        let Some((word, rest)) = line.split_once(" ") else {
+            self.answer_word(rt, store, line)?;
+            return Ok(Next::Stay);
+        };
+        match word {
+            "store" => return choose_store(rt, line, rest),
+            "begin" => begin(rt, store, line, rest)?,
+            "put" => put(rt, store, line, rest)?,
+            "entry" => entry(rt, store, line, rest)?,
+            _ => self.answer_words(rt, line, word, rest)?,
         }
+        Ok(Next::Stay)
+    }
+
+    // Answers a command of one word.
+    fn answer_word<S: Store>(
+        &mut self,
+        rt: &LibcRuntime,
+        store: &mut S,
+        line: &str,
+    ) -> io::Result<()> {
         match line {
             "newtext" => {
                 self.text.clear();
@@ -68,6 +100,25 @@ impl Session {
             }
             "read" => self.read(rt),
             "roster" => self.show(rt),
+            "shape" => shape(rt, store),
+            _ => unknown(rt, line),
+        }
+    }
+
+    // Answers a command on text, roster and field.
+    fn answer_words(
+        &mut self,
+        rt: &LibcRuntime,
+        line: &str,
+        word: &str,
+        rest: &str,
+    ) -> io::Result<()> {
+        match word {
+            "text" => self.add_text(rt, line, rest),
+            "write" => self.write(rt, line, rest),
+            "field" => self.choose_field(rt, line, rest),
+            "sum" | "product" => self.of_two(rt, line, word, rest),
+            "negative" | "inverse" => self.of_one(rt, line, word, rest),
             _ => unknown(rt, line),
         }
     }
