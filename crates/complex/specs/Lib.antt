@@ -1,0 +1,3 @@
+-- What the contracts of the crate cite.
+pub mod Systems
+pub mod Boundaries

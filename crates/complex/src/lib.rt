@@ -1,0 +1,2 @@
+// The complex of the sensors that are on: edges, triangles, boundaries, and the matrix that is reduced.
+pub mod boundary;
