@@ -4,3 +4,4 @@ pub mod edge;
 mod fence;
 pub mod neighbours;
 pub mod plan;
+pub mod sensor_set;
