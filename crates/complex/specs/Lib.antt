@@ -1,3 +1,7 @@
 -- What the contracts of the crate cite.
 pub mod Systems
 pub mod Boundaries
+pub mod Listings
+pub mod Orders
+pub mod Theorems
+pub mod Hub

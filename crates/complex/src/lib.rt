@@ -1,2 +1,5 @@
 // The complex of the sensors that are on: edges, triangles, boundaries, and the matrix that is reduced.
 pub mod boundary;
+pub mod listing;
+pub mod order;
+pub mod theorems;
