@@ -3,3 +3,4 @@ pub mod Listed
 pub mod Orders
 pub mod Ascents
 pub mod Sublists
+pub mod Columns

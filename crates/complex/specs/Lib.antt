@@ -5,3 +5,4 @@ pub mod Listings
 pub mod Orders
 pub mod Theorems
 pub mod Hub
+pub mod Grids
