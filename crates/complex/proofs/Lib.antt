@@ -4,3 +4,4 @@ pub mod Orders
 pub mod Ascents
 pub mod Sublists
 pub mod Columns
+pub mod Usable

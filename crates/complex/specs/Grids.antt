@@ -8,11 +8,13 @@ use denote.Ref.{now}
 use lib.Dec.{leb}
 use lib.ListN.{length}
 use Rattle.std.proofs.shelf.Tests.{and-parts, and-from, le-leb, leb-true, ltb-true, eqb-true, both-ways}
+use Rattle.field.specs.Arithmetic.{Arithmetic}
 use Rattle.matrix.specs.Matrix.{Matrix, inside, Outside}
 use Rattle.survey.specs.declared.edge.Edge.{Edge}
 use Rattle.survey.specs.declared.edge.Triangle.{Triangle}
+use Rattle.survey.specs.Surveys.{Survey, Sensors, Valid, edges, triangles}
 use Rattle.complex.specs.declared.lists.Lists.{Lists}
-use Rattle.complex.specs.Boundaries.{listed-system}
+use Rattle.complex.specs.Boundaries.{listed-system, system}
 use Rattle.complex.specs.Orders.{ascends, edge-less, Stands}
 use Rattle.complex.specs.Systems.{System, starting, starting-matrix}
 
@@ -33,6 +35,11 @@ usable-edges es = cond (leb (length es) 512 && ascends edge-less es) es []
 
 abbrev pub usable-triangles : List Triangle → List Triangle
 usable-triangles ts = cond (leb (length ts) 1024) ts []
+
+-- the starting matrix of every survey and set of sensors on whose lists, fence and code for -1 these are
+abbrev pub OfSurveys : List Edge → List Triangle → List ℕ → ℕ → Matrix → Type 0
+OfSurveys es ts fence minus m = (s : Survey) (on : Sensors) (F : Arithmetic) → Valid s
+    → es ≡ edges s on → ts ≡ triangles s on → fence ≡ s .fence → minus ≡ F .negative 1 → m ≡ starting-matrix (system s on F)
 
 -- a search for the first nonzero row of a column f from `first` on has come down from a row to the row r: a nonzero one, if
 -- it is another, and the rows from `first` to below r that hold the edge e are zero
