@@ -10,9 +10,10 @@ use lib.ListN.{length, getD, drop}
 use Rattle.std.specs.shelf.Lists.{All}
 use Rattle.std.proofs.shelf.Tests.{and-parts, leb-true, not-true, eq-eqb, ne-eqb, or-left, cond-true, cond-false, cases-lt, lt-ltb, le-ltb}
 use Rattle.std.proofs.shelf.Elements.{all-getD}
-use Rattle.survey.specs.Lists.{numbers}
+use Rattle.survey.specs.Lists.{numbers, after}
 use Rattle.std.proofs.shelf.Lists.{at-drop-more, at-drop-all}
-use Rattle.survey.specs.Surveys.{Survey, Sensors, meeting, distinct, nobody, all-linked, steps, steps-from}
+use Rattle.survey.specs.declared.edge.Edge.{Edge}
+use Rattle.survey.specs.Surveys.{Survey, Sensors, edge, meeting, distinct, nobody, all-linked, steps, steps-from}
 use Rattle.survey.proofs.Lists.{sum, sum-one, sum-more}
 
 -- x is a sensor's number
@@ -65,23 +66,29 @@ pub distinct-met : (n : ℕ) (met : Sensors) (xs : List ℕ) (i : ℕ) (b : Bool
 distinct-met n met xs i b l t =
     at-drop-more (distinct n met) xs i 0 l ∙ ap (λ a. a && distinct n (meeting (getD xs i 0) met) (drop (i + 1) xs)) (sym t)
 
--- a loop round the fence: the step from the place i has a link, or there is none and the fence is not closed
-pub linked-step : (s : Survey) (xs : List ℕ) (i : ℕ) (b : Bool) → i < length xs
-    → b ≡ s .linked (getD xs i 0) (cond (ltb (i + 1) (length xs)) (getD xs (i + 1) 0) (getD xs 0 0))
-    → all-linked s (steps-from (getD xs 0 0) (drop i xs)) ≡ (b && all-linked s (steps-from (getD xs 0 0) (drop (i + 1) xs)))
-linked-step s xs i b l t = elim (cases-lt (i + 1) (length xs)) [
+-- a loop round the fence: the step from the place i, and those after it
+pub steps-more : (xs : List ℕ) (i : ℕ) → i < length xs
+    → steps-from (getD xs 0 0) (drop i xs) ≡ edge (getD xs i 0) (after xs i) ∷ steps-from (getD xs 0 0) (drop (i + 1) xs)
+steps-more xs i l = elim (cases-lt (i + 1) (length xs)) [
   | inl more ↦
       at-drop-more F xs i 0 l
       ∙ at-drop-more (λ ys. F (getD xs i 0 ∷ ys)) xs (i + 1) 0 more
-      ∙ ap₂ _&&_ (ap (s .linked (getD xs i 0)) (sym (cond-true _ (getD xs (i + 1) 0) (getD xs 0 0) (lt-ltb _ _ more))) ∙ sym t) (sym (at-drop-more F xs (i + 1) 0 more))
+      ∙ ap₂ _∷_ (ap (edge (getD xs i 0)) (sym (cond-true _ (getD xs (i + 1) 0) (getD xs 0 0) (lt-ltb _ _ more)))) (sym (at-drop-more F xs (i + 1) 0 more))
   | inr end ↦
       at-drop-more F xs i 0 l
       ∙ at-drop-all (λ ys. F (getD xs i 0 ∷ ys)) xs (i + 1) end
-      ∙ ap₂ _&&_ (ap (s .linked (getD xs i 0)) (sym (cond-false _ (getD xs (i + 1) 0) (getD xs 0 0) (le-ltb _ _ end))) ∙ sym t) (sym (at-drop-all F xs (i + 1) end))
+      ∙ ap₂ _∷_ (ap (edge (getD xs i 0)) (sym (cond-false _ (getD xs (i + 1) 0) (getD xs 0 0) (le-ltb _ _ end)))) (sym (at-drop-all F xs (i + 1) end))
 ]
   where
-    F : List ℕ → Bool
-    F ys = all-linked s (steps-from (getD xs 0 0) ys)
+    F : List ℕ → List Edge
+    F ys = steps-from (getD xs 0 0) ys
+
+-- the step has a link, or there is none and the fence is not closed
+pub linked-step : (s : Survey) (xs : List ℕ) (i : ℕ) (b : Bool) → i < length xs
+    → b ≡ s .linked (getD xs i 0) (after xs i)
+    → all-linked s (steps-from (getD xs 0 0) (drop i xs)) ≡ (b && all-linked s (steps-from (getD xs 0 0) (drop (i + 1) xs)))
+linked-step s xs i b l t =
+    ap (all-linked s) (steps-more xs i l) ∙ ap (λ a. a && all-linked s (steps-from (getD xs 0 0) (drop (i + 1) xs))) (sym t)
 
 pub steps-whole : (xs : List ℕ) → steps-from (getD xs 0 0) xs ≡ steps xs
 steps-whole [] = refl

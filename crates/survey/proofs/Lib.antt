@@ -3,4 +3,5 @@ pub mod Lists
 pub mod Walks
 pub mod Fences
 pub mod Edges
+pub mod Everyone
 pub mod Judging

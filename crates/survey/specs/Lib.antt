@@ -1,5 +1,6 @@
 pub mod Lists
 pub mod Tables
 pub mod Surveys
+pub mod Sets
 pub mod Views
 pub mod Plans

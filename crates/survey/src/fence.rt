@@ -6,6 +6,7 @@ ghost use mathlib.Core.Path.{_≡_};
 ghost use Prim.Native.Nat.{_+_, _≤_, _<_};
 ghost use lib.Dec.{leb, ltb};
 ghost use lib.ListN.{length, getD, take};
+ghost use Rattle.survey.specs.Lists.{after};
 ghost use Rattle.survey.specs.Surveys.{distinct, nobody, «all-linked», steps};
 ghost use Rattle.survey.specs.Views.{drawn};
 
@@ -40,12 +41,13 @@ pub(crate) fn is_fence(count: u16, fence: &[u16]) -> bool
     fence.len() >= 3 && is_distinct(count, fence)
 }
 
-// The sensor after the place `i`, round the fence.
-fn next(fence: &[u16], i: usize) -> u16
-    requires { ⌜ i < length (now fence) ⌝ }
-    ensures { λ r. ⌜ r ≡ cond (ltb (i + 1) (length (now (fence .entry)))) (getD (now (fence .entry)) (i + 1) 0) (getD (now (fence .entry)) 0 0) ⌝ }
+// The sensor after the place `i`, round the fence: the first after the last, and 0 if there is none.
+pub fn next(fence: &[u16], i: usize) -> u16
+    ensures { λ r. ⌜ r ≡ after (now (fence .entry)) i ⌝ }
 {
-    if i + 1 < fence.len() {
+    if fence.len() == 0 {
+        0
+    } else if i < fence.len() - 1 {
         fence[i + 1]
     } else {
         fence[0]
