@@ -1,0 +1,5 @@
+-- The theory, lowest first; all of it is for other crates.
+pub mod Sums
+pub mod Spans
+pub mod Totals
+pub mod Separation
