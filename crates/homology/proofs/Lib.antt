@@ -1,5 +1,8 @@
 -- The theory, lowest first; all of it is for other crates.
 pub mod Sums
 pub mod Spans
+pub mod Equations
 pub mod Totals
 pub mod Separation
+pub mod Columns
+pub mod Unique
