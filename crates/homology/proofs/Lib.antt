@@ -6,3 +6,5 @@ pub mod Totals
 pub mod Separation
 pub mod Columns
 pub mod Unique
+pub mod Lows
+pub mod Due

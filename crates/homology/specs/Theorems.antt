@@ -31,21 +31,22 @@ OneSeparator = (F : Arithmetic) → FieldLaws F → (S : System) → CodedSystem
     → GivenSeparator F S x → GivenSeparator F S y → Agree (S .rows) x y
 
 -- Which addition is due, for a loop that works from the first column to the last.
-module _ (E T : ℕ) (M : Entries) where
-  -- the lows of the columns 1 to j differ
-  abbrev pub Apart : ℕ → Type 0
-  Apart j = (i k : ℕ) → 1 ≤ i → i < k → k ≤ j → 1 ≤ low E M k → low E M i ≢ low E M k
 
+-- the lows of the columns 1 to j differ
+abbrev pub Apart : ℕ → Entries → ℕ → Type 0
+Apart E M j = (i k : ℕ) → 1 ≤ i → i < k → k ≤ j → 1 ≤ low E M k → low E M i ≢ low E M k
+
+module _ (E T : ℕ) (M : Entries) where
   -- where row r is a low, column T + 1 is 0
   abbrev pub Quiet : ℕ → Type 0
   Quiet r = (i : ℕ) → 1 ≤ i → i ≤ T → low E M i ≡ r → M r (T + 1) ≡ 0
 
   pub record DueIs : Type 0 where
-    pub in-column : (i j : ℕ) → Apart j → j < T → 1 ≤ i → i ≤ j → 1 ≤ low E M i → low E M i ≡ low E M (suc j)
+    pub in-column : (i j : ℕ) → Apart E M j → j < T → 1 ≤ i → i ≤ j → 1 ≤ low E M i → low E M i ≡ low E M (suc j)
         → due E T M ≡ Some (record { from = i; to = suc j; row = low E M i })
-    pub in-last : (i r : ℕ) → Apart T → 1 ≤ i → i ≤ T → 1 ≤ r → r ≤ E → low E M i ≡ r → M r (T + 1) ≢ 0 → ((q : ℕ) → r < q → q ≤ E → Quiet q)
+    pub in-last : (i r : ℕ) → Apart E M T → 1 ≤ i → i ≤ T → 1 ≤ r → r ≤ E → low E M i ≡ r → M r (T + 1) ≢ 0 → ((q : ℕ) → r < q → q ≤ E → Quiet q)
         → due E T M ≡ Some (record { from = i; to = T + 1; row = r })
-    pub none : Apart T → ((q : ℕ) → 1 ≤ q → q ≤ E → Quiet q) → due E T M ≡ None
+    pub none : Apart E M T → ((q : ℕ) → 1 ≤ q → q ≤ E → Quiet q) → due E T M ≡ None
 
 abbrev pub WhatIsDue : Type 0
 WhatIsDue = (E T : ℕ) (M : Entries) → DueIs E T M
