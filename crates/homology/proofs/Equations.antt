@@ -50,3 +50,8 @@ module _ {E : Type 0} (k : Operations E) (laws : Laws k) where
   minus-factor y w v e some =
       let spread : (y ⊕ neg w) ⊗ v ≡ y ⊗ v ⊕ neg (w ⊗ v) = simp (ring, laws) in
       zero-product k laws (y ⊕ neg w) v (spread ∙ minus-same (y ⊗ v) (w ⊗ v) e) some
+
+  -- sums b + x and c + y with c = 0, the one plus a multiple of the other
+  pub plus-multiple : (n p q b c x y z g : E) → n ≡ p ⊕ g ⊗ q → p ≡ b ⊕ x → q ≡ c ⊕ y → c ≡ 𝟘 → z ≡ x ⊕ g ⊗ y → n ≡ b ⊕ z
+  plus-multiple n p q b c x y z g en ep eq ec ez =
+      en ∙ ap₂ (λ u v. u ⊕ g ⊗ v) ep (eq ∙ zero-plus c y ec) ∙ laws .add-assoc b x (g ⊗ y) ∙ ap (λ w. b ⊕ w) (sym ez)

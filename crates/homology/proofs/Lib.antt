@@ -8,3 +8,6 @@ pub mod Columns
 pub mod Unique
 pub mod Lows
 pub mod Due
+pub mod Additions
+pub mod Pivots
+pub mod Ending

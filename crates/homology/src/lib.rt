@@ -1,6 +1,6 @@
 // The theory of coverage: linear systems over a field, the reduction that decides them, and certificates. Each function stands
 // for a theorem, which is its contract.
-ghost use Rattle.homology.specs.Theorems.{BlockExcludesFilling, OneSolution, OneSeparator, WhatIsDue};
+ghost use Rattle.homology.specs.Theorems.{BlockExcludesFilling, OneSolution, OneSeparator, WhatIsDue, ReductionEnds, AddsReach};
 
 // A separator refutes a solution, for any system.
 pub fn block_excludes_filling() -> ()
@@ -20,4 +20,14 @@ pub fn one_separator() -> ()
 // The addition that is due to a column whose low is taken, to the last column, and none.
 pub fn what_is_due() -> ()
     ensures { λ _. ⌜ WhatIsDue ⌝ }
+{}
+
+// The reduction of a system of T columns ends with no addition due, after at most T * (T + 1) / 2 of them.
+pub fn reduction_ends() -> ()
+    ensures { λ _. ⌜ ReductionEnds ⌝ }
+{}
+
+// Additions that are due, made until none is, come to the reduced matrix in as many steps.
+pub fn adds_reach() -> ()
+    ensures { λ _. ⌜ AddsReach ⌝ }
 {}
