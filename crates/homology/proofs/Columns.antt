@@ -14,7 +14,7 @@ use Rattle.field.proofs.Elements.{Element, elements, element-laws, zero-code, o
 use Rattle.matrix.specs.Matrix.{Entries}
 use Rattle.complex.specs.Systems.{Vector, System, starting}
 use Rattle.homology.specs.Linear.{Codes, total, combination, Greatest, CodedSystem, Dependent, Capped}
-use Rattle.homology.proofs.Spans.{combine, combine-none, dot, Span}
+use Rattle.homology.proofs.Spans.{combine, combine-none, dot, LastRow}
 use Rattle.homology.proofs.Spans as spans
 use Rattle.homology.proofs.Equations.{times-zero}
 use Rattle.homology.proofs.Totals.{total-sum, total-sum-0, total-same, lifted, lowered, lowered-codes}
@@ -26,13 +26,6 @@ Coded F M = (r c : ℕ) → Code F (M r c)
 -- an entry as an element
 abbrev pub at : (F : Arithmetic) (M : Entries) → Coded F M → ℕ → ℕ → Element F
 at F M codes r c = (M r c, codes r c)
-
--- the row e is the last row of some combination of the first n columns that is not 0
-pub record LastRow {E : Type 0} (k : Operations E) (d : ℕ → ℕ → E) (n e : ℕ) : Type 0 where
-  pub vector : ℕ → E
-  pub spanned : Span k d n vector
-  pub here : ¬ (vector e ≡ k .zero)
-  pub beyond : (i : ℕ) → e < i → vector i ≡ k .zero
 
 -- what the starting matrix of a system holds
 module _ (S : System) where

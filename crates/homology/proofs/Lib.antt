@@ -11,3 +11,8 @@ pub mod Due
 pub mod Additions
 pub mod Pivots
 pub mod Ending
+pub mod Echelon
+pub mod Reduced
+pub mod Listing
+pub mod ReadOff
+pub mod Certificates

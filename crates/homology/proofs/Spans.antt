@@ -25,6 +25,13 @@ module _ {E R : Type 0} (k : Operations E) (d : ℕ → R → E) where
   abbrev pub Dependent : ℕ → Type 0
   Dependent j = Span j (d j)
 
+-- the row e is the last row of some combination of the first n columns that is not 0
+pub record LastRow {E : Type 0} (k : Operations E) (d : ℕ → ℕ → E) (n e : ℕ) : Type 0 where
+  pub vector : ℕ → E
+  pub spanned : Span k d n vector
+  pub here : ¬ (vector e ≡ k .zero)
+  pub beyond : (i : ℕ) → e < i → vector i ≡ k .zero
+
 -- c with a at j
 abbrev pub put : {E : Type 0} → ℕ → E → (ℕ → E) → ℕ → E
 put j a c i = cond (eqb i j) a (c i)

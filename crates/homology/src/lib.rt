@@ -1,6 +1,6 @@
 // The theory of coverage: linear systems over a field, the reduction that decides them, and certificates. Each function stands
 // for a theorem, which is its contract.
-ghost use Rattle.homology.specs.Theorems.{BlockExcludesFilling, OneSolution, OneSeparator, WhatIsDue, ReductionEnds, AddsReach};
+ghost use Rattle.homology.specs.Theorems.{BlockExcludesFilling, OneSolution, OneSeparator, WhatIsDue, ReductionEnds, AddsReach, ReductionAnswers, CertificatePublished, CertificateDecides, OnePublished};
 
 // A separator refutes a solution, for any system.
 pub fn block_excludes_filling() -> ()
@@ -30,4 +30,24 @@ pub fn reduction_ends() -> ()
 // Additions that are due, made until none is, come to the reduced matrix in as many steps.
 pub fn adds_reach() -> ()
     ensures { λ _. ⌜ AddsReach ⌝ }
+{}
+
+// What is read off the reduced matrix is the given solution of the system, or its given separator.
+pub fn reduction_answers() -> ()
+    ensures { λ _. ⌜ ReductionAnswers ⌝ }
+{}
+
+// The certificate of a survey is a published one.
+pub fn certificate_published() -> ()
+    ensures { λ _. ⌜ CertificatePublished ⌝ }
+{}
+
+// It says whether the sensors that are on have a filling.
+pub fn certificate_decides() -> ()
+    ensures { λ _. ⌜ CertificateDecides ⌝ }
+{}
+
+// Two published certificates are of one kind, with the same codes.
+pub fn one_published() -> ()
+    ensures { λ _. ⌜ OnePublished ⌝ }
 {}
