@@ -7,6 +7,8 @@ use native.Mathlib.Decide.{Fin·val-path as by-code}
 use native.Mathlib.Omega.{arith}
 use lib.Dec.{eqb}
 use Rattle.std.specs.Iters.{counting}
+use Rattle.std.specs.declared.option.Option.{Option}
+use Rattle.std.specs.declared.option.Option.the-variants.{Some, None}
 use Rattle.std.proofs.shelf.Tests.{cases-eq, ne-eqb, eq-eqb, cond-true, cond-false, cond-both, and-left, and-right, and-from, not-from-true, not-from-false}
 use Rattle.field.specs.Algebra.{Operations, Laws}
 use Rattle.field.specs.Arithmetic.{Arithmetic, FieldLaws, Code}
@@ -14,12 +16,24 @@ use Rattle.field.proofs.Rings.{cleared}
 use Rattle.field.proofs.Elements.{Element, elements, element-laws}
 use Rattle.matrix.specs.Matrix.{Entries}
 use Rattle.complex.specs.Systems.{System, starting}
-use Rattle.homology.specs.Reduction.{low, factor, added, Addition}
+use Rattle.homology.specs.Reduction.{low, factor, added, addition-puts, Addition, Course, before, still, course}
 use Rattle.homology.proofs.Sums.{sum-same, sum-none, sum-only}
 use Rattle.homology.proofs.Spans.{combine, combine-add, combine-scale}
 use Rattle.homology.proofs.Equations.{zero-times, times-zero, one-times, plus-zero, zero-plus, plus-multiple}
 use Rattle.homology.proofs.Columns.{Coded, at, starting-record}
 use Rattle.homology.proofs.Lows.{low-same}
+
+-- a course, by the addition that is due
+abbrev pub turn : Arithmetic → ℕ → ℕ → ℕ → Entries → Option Addition → Course
+turn F E T fuel M r = elim r [ None ↦ still M | Some a ↦ before 1 (addition-puts F (E + T) M a) (course F E T fuel (added F M a)) ]
+
+-- what an addition leaves as it was
+module _ (F : Arithmetic) (M : Entries) (a : Addition) where
+  pub added-other : (r c : ℕ) → ¬ (c ≡ a .to) → added F M a r c ≡ M r c
+  added-other r c n = cond-false _ _ _ (and-left _ _ (ne-eqb c (a .to) n))
+
+  pub added-zero : (r c : ℕ) → M r (a .from) ≡ 0 → added F M a r c ≡ M r c
+  added-zero r c z = cond-false _ _ _ (and-right _ _ (not-from-true _ (eq-eqb (M r (a .from)) 0 z)))
 
 module _ (F : Arithmetic) (f : FieldLaws F) where
   abbrev K : Operations (Element F)
@@ -28,14 +42,8 @@ module _ (F : Arithmetic) (f : FieldLaws F) where
   abbrev laws : Laws K
   laws = element-laws F f
 
-  -- what an addition changes, and what it leaves
+  -- what it changes
   module _ (M : Entries) (codes : Coded F M) (a : Addition) where
-    pub added-other : (r c : ℕ) → ¬ (c ≡ a .to) → added F M a r c ≡ M r c
-    added-other r c n = cond-false _ _ _ (and-left _ _ (ne-eqb c (a .to) n))
-
-    pub added-zero : (r c : ℕ) → M r (a .from) ≡ 0 → added F M a r c ≡ M r c
-    added-zero r c z = cond-false _ _ _ (and-right _ _ (not-from-true _ (eq-eqb (M r (a .from)) 0 z)))
-
     pub added-codes : Coded F (added F M a)
     added-codes r c = cond-both _ _ _ (Code F) (λ _. f .sum-code _ _) (λ _. codes r c)
 
@@ -46,7 +54,7 @@ module _ (F : Arithmetic) (f : FieldLaws F) where
     added-is r = elim (cases-eq (M r (a .from)) 0) [
       | inl z ↦
           let none : at F M codes r (a .from) ≡ K .zero = by-code z in
-          let same : at F (added F M a) added-codes r (a .to) ≡ at F M codes r (a .to) = by-code (added-zero r (a .to) z) in
+          let same : at F (added F M a) added-codes r (a .to) ≡ at F M codes r (a .to) = by-code (added-zero F M a r (a .to) z) in
           same ∙ sym (plus-zero K laws (at F M codes r (a .to)) (K .mul multiplier (at F M codes r (a .from))) (times-zero K laws multiplier (at F M codes r (a .from)) none))
       | inr n ↦ by-code (cond-true _ _ _ (and-from _ _ (eq-eqb (a .to) (a .to) refl) (not-from-false _ (ne-eqb (M r (a .from)) 0 n))))
     ]
@@ -132,7 +140,7 @@ module _ (F : Arithmetic) (f : FieldLaws F) where
       N = added F M a
 
       pub lows-kept : (c : ℕ) → c ≤ j → low E N c ≡ low E M c
-      lows-kept c l = low-same E N M E c (λ r. added-other M (inv .codes) a r c (omega arith))
+      lows-kept c l = low-same E N M E c (λ r. added-other F M a r c (omega arith))
 
       abbrev m : ℕ → ℕ → Element F
       m = at F M (inv .codes)
@@ -146,7 +154,7 @@ module _ (F : Arithmetic) (f : FieldLaws F) where
       recorded-added : (r c : ℕ) → 1 ≤ r → r ≤ E → 1 ≤ c → c ≤ suc T → n r c ≡ K .add (base r c) (combine K starts T (λ t. n (E + suc t) c) r)
       recorded-added r c l o p q = elim (cases-eq c (a .to)) [
         | inr d ↦
-            let same : (r : ℕ) → n r c ≡ m r c = λ r. by-code (added-other M (inv .codes) a r c d) in
+            let same : (r : ℕ) → n r c ≡ m r c = λ r. by-code (added-other F M a r c d) in
             same r ∙ inv .recorded r c l o p q ∙ ap (K .add (base r c)) (sum-same K laws (counting 0 T) _ _ (λ t. ap (λ z. K .mul z (starts t r)) (sym (same (E + suc t)))))
         | inl e ↦ subst (λ c. n r c ≡ K .add (base r c) (combine K starts T (λ t. n (E + suc t) c) r)) (sym e) (
             let x = combine K starts T (λ t. m (E + suc t) (a .to)) r in
@@ -162,9 +170,9 @@ module _ (F : Arithmetic) (f : FieldLaws F) where
 
       own-added : (c : ℕ) → 1 ≤ c → c ≤ T → N (E + c) c ≡ 1
       own-added c l o = elim (cases-eq c (a .to)) [
-        | inr d ↦ added-other M (inv .codes) a (E + c) c d ∙ inv .own c l o
+        | inr d ↦ added-other F M a (E + c) c d ∙ inv .own c l o
         | inl e ↦ elim (cases-eq (M (E + c) (a .from)) 0) [
-          | inl z ↦ added-zero M (inv .codes) a (E + c) c z ∙ inv .own c l o
+          | inl z ↦ added-zero F M a (E + c) c z ∙ inv .own c l o
           | inr z ↦ absurd (omega (arith, inv .support (a .from) c l o least (omega arith) (omega arith) z .0))
         ]
       ]
@@ -176,9 +184,9 @@ module _ (F : Arithmetic) (f : FieldLaws F) where
       support-added c t l o p q d z = elim (cases-eq (M (E + t) c) 0) [
         | inr s ↦ support-kept t c (inv .support c t l o p q d s)
         | inl s ↦ elim (cases-eq c (a .to)) [
-          | inr u ↦ absurd (z (added-other M (inv .codes) a (E + t) c u ∙ s))
+          | inr u ↦ absurd (z (added-other F M a (E + t) c u ∙ s))
           | inl u ↦ elim (cases-eq (M (E + t) (a .from)) 0) [
-            | inl v ↦ absurd (z (added-zero M (inv .codes) a (E + t) c v ∙ s))
+            | inl v ↦ absurd (z (added-zero F M a (E + t) c v ∙ s))
             | inr v ↦ elim (cases-eq t (a .from)) [
               | inl w ↦ support-kept t c (omega arith, omega arith, subst (λ n. 1 ≤ low E M n) (sym w) alive)
               | inr w ↦ let h = inv .support (a .from) t l o least (omega arith) w v in support-kept t c (omega (arith, h .0), h .1, h .2)
@@ -190,7 +198,7 @@ module _ (F : Arithmetic) (f : FieldLaws F) where
       pub invariant-added : Invariant j N
       invariant-added = record {
         codes = added-codes M (inv .codes) a;
-        untouched = λ r c l. added-other M (inv .codes) a r c (omega arith) ∙ inv .untouched r c l;
+        untouched = λ r c l. added-other F M a r c (omega arith) ∙ inv .untouched r c l;
         recorded = recorded-added;
         own = own-added;
         support = support-added;

@@ -38,8 +38,8 @@ module _ (S : System) where
   in-matrix : (r t m v x : ℕ) → 1 ≤ r → r ≤ E → 1 ≤ t → t ≤ T → cond (leb 1 r && leb r E && leb 1 t && leb t T) m v ≡ m
   in-matrix r t m v x a b c d = grind (arith, tells)
 
-  pub starting-matrix : (r t : ℕ) → 1 ≤ r → r ≤ E → 1 ≤ t → t ≤ T → starting S r t ≡ S .matrix r t
-  starting-matrix r t a b c d = in-matrix r t _ _ 0 a b c d
+  pub starting-entry : (r t : ℕ) → 1 ≤ r → r ≤ E → 1 ≤ t → t ≤ T → starting S r t ≡ S .matrix r t
+  starting-entry r t a b c d = in-matrix r t _ _ 0 a b c d
 
   in-target : (r c m v x : ℕ) → 1 ≤ r → r ≤ E → c ≡ suc T → cond (leb 1 r && leb r E && leb 1 c && leb c T) m (cond (leb 1 r && leb r E && eqb c (T + 1)) v x) ≡ v
   in-target r c m v x a b e = grind (arith, tells)
@@ -101,7 +101,7 @@ module _ (F : Arithmetic) (f : FieldLaws F) (S : System) (coded : Coded F (start
   column t r = cut (at F (starting S) coded r (suc t)) r
 
   pub column-entry : (t r : ℕ) → t < S .columns → 1 ≤ r → r ≤ S .rows → column t r .0 ≡ S .matrix r (suc t)
-  column-entry t r q l m = ap (λ z. z .0) (cut-in (at F (starting S) coded r (suc t)) r l m) ∙ starting-matrix S r (suc t) l m (omega arith) (omega arith)
+  column-entry t r q l m = ap (λ z. z .0) (cut-in (at F (starting S) coded r (suc t)) r l m) ∙ starting-entry S r (suc t) l m (omega arith) (omega arith)
 
   pub column-target : (r : ℕ) → 1 ≤ r → r ≤ S .rows → column (S .columns) r .0 ≡ S .target r
   column-target r l m = ap (λ z. z .0) (cut-in (at F (starting S) coded r (suc (S .columns))) r l m) ∙ starting-target S r l m
@@ -117,7 +117,7 @@ module _ (F : Arithmetic) (f : FieldLaws F) (S : System) (coded : Coded F (start
       → combine K column n (lifted F x cx) r .0 ≡ combination F n (S .matrix) x r
   combine-codes n q x cx r l m =
       sym (total-sum F f n (λ i. K .mul (x i, cx i) (cut (at F (starting S) coded r i) r)))
-      ∙ total-same F f n _ _ (λ i o p. ap (F .product (x i)) (ap (λ z. z .0) (cut-in (at F (starting S) coded r i) r l m) ∙ starting-matrix S r i l m o (omega arith)))
+      ∙ total-same F f n _ _ (λ i o p. ap (F .product (x i)) (ap (λ z. z .0) (cut-in (at F (starting S) coded r i) r l m) ∙ starting-entry S r i l m o (omega arith)))
 
   -- a sum of products over the rows 1 to E, with weights y
   abbrev pub weights : (y : Vector) → Codes F y → ℕ → Element F

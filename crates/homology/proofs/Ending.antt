@@ -4,20 +4,19 @@ use mathlib.Core.Logic.{_⊎_, inl, inr}
 use Prim.Native.Nat.{ℕ, zero, suc, pred, _+_, _-_, _*_, _/_, _≤_, _<_}
 use native.Mathlib.Nat.{suc-mul, mul-suc}
 use native.Mathlib.Omega.{arith}
-use Rattle.std.specs.declared.option.Option.{Option}
 use Rattle.std.specs.declared.option.Option.the-variants.{Some, None}
 use Rattle.std.proofs.shelf.Tests.{cases-eq, cases-lt}
 use Rattle.field.specs.Arithmetic.{Arithmetic, FieldLaws}
 use Rattle.matrix.specs.Matrix.{Entries}
 use Rattle.complex.specs.Systems.{System, starting}
 use Rattle.homology.specs.Linear.{CodedSystem}
-use Rattle.homology.specs.Reduction.{low, clash, due, added, addition-puts, Addition, Reduces, Adds, Course, course, before, still, enough, reduction}
+use Rattle.homology.specs.Reduction.{low, clash, due, added, Addition, Reduces, Adds, course, enough, reduction}
 use Rattle.homology.specs.Reduction.Reduces.{reduced, adds}
 use Rattle.homology.specs.Reduction.Adds.{start, then-adds}
 use Rattle.homology.specs.Theorems.{Quiet, Ended, ReductionEnds, AddsReach}
 use Rattle.homology.proofs.Columns.{Coded, starting-codes}
 use Rattle.homology.proofs.Lows.{some-not-none, some-same, due-leftover, due-clash, low-nonzero, low-above, low-upper, clash-next, clash-first, found-cases, clash-same, leftover-cases, Left, Clashing}
-use Rattle.homology.proofs.Additions.{Invariant, invariant-start, invariant-later, invariant-added, lows-kept, added-zero, added-clear}
+use Rattle.homology.proofs.Additions.{Invariant, invariant-start, invariant-later, invariant-added, lows-kept, turn, added-zero, added-clear}
 use Rattle.homology.proofs.Pivots.{pivots, pivots-most, pivots-le, pivots-less, pivots-same}
 
 -- 0 + 1 + .. + n
@@ -106,7 +105,7 @@ module _ (F : Arithmetic) (f : FieldLaws F) (S : System) (coded : Coded F (start
           quiet = λ r l m i il im e. elim (cases-eq r (a .row)) [
             | inl o ↦ ap₂ (added F M a) o (sym (h .to)) ∙ added-clear F f M (inv .codes) a (row-nonzero M a (h .row) (h .low-from))
             | inr o ↦
-                added-zero F f M (inv .codes) a r (T + 1) (low-above M E (a .from) r (omega (arith, h .low-from)) m)
+                added-zero F M a r (T + 1) (low-above M E (a .from) r (omega (arith, h .low-from)) m)
                 ∙ g .4 r (omega arith) m i il im (lows i il im ∙ e)
           ];
           fewer = omega (
@@ -149,7 +148,7 @@ module _ (F : Arithmetic) (f : FieldLaws F) (S : System) (coded : Coded F (start
         let here : low E M (suc j) ≡ a .row = ap (low E M) (sym to) ∙ h .low-to in
         let falls : low E (added F M a) (suc j) ≤ pred (a .row) = low-upper (added F M a) E (pred (a .row)) (suc j) (λ r o m. elim (cases-eq r (a .row)) [
           | inl q ↦ ap₂ (added F M a) q (sym to) ∙ added-clear F f M (inv .codes) a (row-nonzero M a (h .row) (h .low-from))
-          | inr q ↦ added-zero F f M (inv .codes) a r (suc j) (low-above M E (a .from) r (omega (arith, h .low-from)) m) ∙ low-above M E (suc j) r (omega arith) m
+          | inr q ↦ added-zero F M a r (suc j) (low-above M E (a .from) r (omega (arith, h .low-from)) m) ∙ low-above M E (suc j) r (omega arith) m
         ]) in
         let whole : suc j + (T - suc j) ≡ T = omega arith in
         inr (record {
@@ -191,16 +190,13 @@ module _ (F : Arithmetic) (f : FieldLaws F) (S : System) (coded : Coded F (start
       done-more (starting S) (remaining 0 T) (enough T) (omega (arith, remaining-is T 0, triangular-is T, ap triangular all)) (all-columns T 0 (starting S) all (invariant-start F f S coded) refl)
 
   -- a course with fuel enough goes the way of the relation
-  abbrev turn : ℕ → Entries → Option Addition → Course
-  turn fuel M r = elim r [ None ↦ still M | Some a ↦ before 1 (addition-puts F (E + T) M a) (course F E T fuel (added F M a)) ]
-
   course-is : (fuel k : ℕ) (M N : Entries) → Reduces F E T M k N → k ≤ fuel → (course F E T fuel M .matrix ≡ N) × (course F E T fuel M .additions ≡ k)
   course-is zero _ _ _ (reduced M e) l = (refl, refl)
-  course-is (suc fuel) _ _ _ (reduced M e) l = (ap (λ r. turn fuel M r .matrix) e, ap (λ r. turn fuel M r .additions) e)
+  course-is (suc fuel) _ _ _ (reduced M e) l = (ap (λ r. turn F E T fuel M r .matrix) e, ap (λ r. turn F E T fuel M r .additions) e)
   course-is zero _ _ _ (adds M a k N e way) l = absurd (omega arith)
   course-is (suc fuel) _ _ _ (adds M a k N e way) l =
       let more = course-is fuel k (added F M a) N way (omega arith) in
-      (ap (λ r. turn fuel M r .matrix) e ∙ more .0, ap (λ r. turn fuel M r .additions) e ∙ omega (arith, more .1))
+      (ap (λ r. turn F E T fuel M r .matrix) e ∙ more .0, ap (λ r. turn F E T fuel M r .additions) e ∙ omega (arith, more .1))
 
   reduction-is : (reduction F S .matrix ≡ done .last) × (reduction F S .additions ≡ done .number)
   reduction-is = course-is (enough T) (done .number) (starting S) (done .last) (done .way) (done .few)

@@ -16,3 +16,4 @@ pub mod Reduced
 pub mod Listing
 pub mod ReadOff
 pub mod Certificates
+pub mod Putting

@@ -234,6 +234,34 @@ module _ (E T : ℕ) (M : Entries) where
   pub none-apart : due E T M ≡ None → Apart E M T
   none-apart e = clash-apart E M T (none-clashes E T M e)
 
+-- what is due goes to one of the columns
+module _ (E : ℕ) (M : Entries) where
+  clash-to : (j : ℕ) (a : Addition) → clash E M j ≡ Some a → (1 ≤ a .to) × (a .to ≤ j)
+  clash-to zero a e = absurd (some-not-none a (sym e))
+  clash-to (suc j) a e = go (clash E M j) refl (λ b. clash-to j b)
+    where
+      go : (r : Option Addition) → clash E M j ≡ r → ((b : Addition) → clash E M j ≡ Some b → (1 ≤ b .to) × (b .to ≤ j)) → (1 ≤ a .to) × (a .to ≤ suc j)
+      go (Some b) q more =
+          let up : j + 1 ≡ suc j = omega arith in
+          let h = more b q in
+          subst (λ c. (1 ≤ c .to) × (c .to ≤ suc j)) (some-same b a (sym (clash-first E M j 1 b q) ∙ ap (clash E M) up ∙ e)) (h .0, omega (arith, h .1))
+      go None q more = elim (found-cases E M j) [
+        | inl g ↦ absurd (some-not-none a (sym e ∙ clash-next E M j q ∙ g .0))
+        | inr g ↦ let to : a .to ≡ suc j = ap (λ c. c .to) (some-same a (g .0) (sym e ∙ clash-next E M j q ∙ g .1)) ∙ g .2 in (omega arith, omega arith)
+      ]
+
+pub due-to : (E T : ℕ) (M : Entries) (a : Addition) → due E T M ≡ Some a → (1 ≤ a .to) × (a .to ≤ T + 1)
+due-to E T M a e = go (clash E M T) refl
+  where
+    go : (r : Option Addition) → clash E M T ≡ r → (1 ≤ a .to) × (a .to ≤ T + 1)
+    go (Some b) q =
+        let h = clash-to E M T b q in
+        subst (λ c. (1 ≤ c .to) × (c .to ≤ T + 1)) (some-same b a (sym (due-clash E T M b q) ∙ e)) (h .0, omega (arith, h .1))
+    go None q = elim (leftover-cases E T M E) [
+      | inl g ↦ absurd (some-not-none a (sym e ∙ due-leftover E T M q ∙ g .0))
+      | inr g ↦ let to : a .to ≡ T + 1 = ap (λ c. c .to) (some-same a (g .0) (sym e ∙ due-leftover E T M q ∙ g .1)) ∙ g .3 .to in (omega arith, omega arith)
+    ]
+
 -- matrices that agree in columns have the same lows there, and the same clashes
 module _ (E : ℕ) (M N : Entries) where
   pub low-same : (e j : ℕ) → ((r : ℕ) → M r j ≡ N r j) → low e M j ≡ low e N j

@@ -1,6 +1,6 @@
 // The theory of coverage: linear systems over a field, the reduction that decides them, and certificates. Each function stands
 // for a theorem, which is its contract.
-ghost use Rattle.homology.specs.Theorems.{BlockExcludesFilling, OneSolution, OneSeparator, WhatIsDue, ReductionEnds, AddsReach, ReductionAnswers, CertificatePublished, CertificateDecides, OnePublished};
+ghost use Rattle.homology.specs.Theorems.{BlockExcludesFilling, OneSolution, OneSeparator, WhatIsDue, ReductionEnds, AddsReach, ReductionAnswers, CertificatePublished, CertificateDecides, OnePublished, PutsReduce};
 
 // A separator refutes a solution, for any system.
 pub fn block_excludes_filling() -> ()
@@ -50,4 +50,9 @@ pub fn certificate_decides() -> ()
 // Two published certificates are of one kind, with the same codes.
 pub fn one_published() -> ()
     ensures { λ _. ⌜ OnePublished ⌝ }
+{}
+
+// The puts of loading and reducing lead from the blank matrix to the reduced one.
+pub fn puts_reduce() -> ()
+    ensures { λ _. ⌜ PutsReduce ⌝ }
 {}
