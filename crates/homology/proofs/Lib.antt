@@ -17,3 +17,4 @@ pub mod Listing
 pub mod ReadOff
 pub mod Certificates
 pub mod Putting
+pub mod Room

@@ -6,9 +6,13 @@ use mathlib.Core.Logic.{_≢_}
 use Prim.Native.Nat.{ℕ, suc, _+_, _≤_, _<_}
 use lib.Dec.{leb, eqb}
 use Rattle.std.specs.declared.option.Option.the-variants.{Some, None}
+use Rattle.refusal.specs.declared.Refusal.the-variants.{StoreFull}
+use Rattle.refusal.specs.Numbers.{number-of}
+use Rattle.refusal.specs.Outcomes.{accepted, refused}
 use Rattle.field.specs.Arithmetic.{Arithmetic, FieldLaws, Alike}
 use Rattle.matrix.specs.declared.put.Put.{Put}
 use Rattle.matrix.specs.Matrix.{Matrix, Entries, over, blank, count, put-into, played}
+use Rattle.matrix.specs.Terms.{Terms, puts-outcome}
 use Rattle.survey.specs.Surveys.{Survey, Sensors}
 use Rattle.complex.specs.Systems.{Vector, System, starting}
 use Rattle.complex.specs.Boundaries.{system}
@@ -104,6 +108,12 @@ takes-all limit m (p ∷ ps) =
 abbrev pub PeakTells : Type 0
 PeakTells = (F : Arithmetic) (S : System) (limit : ℕ)
     → takes-all limit (blank (S .rows + S .columns) (S .columns + 1)) (all-puts F S) ≡ leb (peak F S) limit
+
+-- A store whose codes include the field's refuses one of them, for want of room, exactly if the peak exceeds its limit for the shape.
+abbrev pub PeakRefuses : Type 0
+PeakRefuses = (F : Arithmetic) → FieldLaws F → (S : System) → CodedSystem F S → (t : Terms) → F .order ≤ t .bound
+    → let R = S .rows + S .columns in let C = S .columns + 1 in
+    puts-outcome t (blank R C) (all-puts F S) ≡ cond (leb (peak F S) (t .limit R C)) (accepted tt) (refused (number-of StoreFull))
 
 -- a filling stays when more sensors are on
 abbrev pub FillingsGrow : Type 0

@@ -1,6 +1,6 @@
 // The theory of coverage: linear systems over a field, the reduction that decides them, and certificates. Each function stands
 // for a theorem, which is its contract.
-ghost use Rattle.homology.specs.Theorems.{BlockExcludesFilling, OneSolution, OneSeparator, WhatIsDue, ReductionEnds, AddsReach, ReductionAnswers, CertificatePublished, CertificateDecides, OnePublished, PutsReduce};
+ghost use Rattle.homology.specs.Theorems.{BlockExcludesFilling, OneSolution, OneSeparator, WhatIsDue, ReductionEnds, AddsReach, ReductionAnswers, CertificatePublished, CertificateDecides, OnePublished, PutsReduce, PeakTells, PeakRefuses};
 
 // A separator refutes a solution, for any system.
 pub fn block_excludes_filling() -> ()
@@ -55,4 +55,14 @@ pub fn one_published() -> ()
 // The puts of loading and reducing lead from the blank matrix to the reduced one.
 pub fn puts_reduce() -> ()
     ensures { λ _. ⌜ PutsReduce ⌝ }
+{}
+
+// A store with a limit takes them all exactly if the peak is within it.
+pub fn peak_tells() -> ()
+    ensures { λ _. ⌜ PeakTells ⌝ }
+{}
+
+// A store that takes the field's codes refuses one of them, being full, exactly if the peak exceeds its limit for the shape.
+pub fn peak_refuses() -> ()
+    ensures { λ _. ⌜ PeakRefuses ⌝ }
 {}
