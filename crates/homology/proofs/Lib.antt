@@ -18,3 +18,5 @@ pub mod ReadOff
 pub mod Certificates
 pub mod Putting
 pub mod Room
+pub mod Weighted
+pub mod Growing

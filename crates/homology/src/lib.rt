@@ -1,6 +1,6 @@
 // The theory of coverage: linear systems over a field, the reduction that decides them, and certificates. Each function stands
 // for a theorem, which is its contract.
-ghost use Rattle.homology.specs.Theorems.{BlockExcludesFilling, OneSolution, OneSeparator, WhatIsDue, ReductionEnds, AddsReach, ReductionAnswers, CertificatePublished, CertificateDecides, OnePublished, PutsReduce, PeakTells, PeakRefuses};
+ghost use Rattle.homology.specs.Theorems.{BlockExcludesFilling, OneSolution, OneSeparator, WhatIsDue, ReductionEnds, AddsReach, ReductionAnswers, CertificatePublished, CertificateDecides, OnePublished, PutsReduce, PeakTells, PeakRefuses, FillingsGrow};
 
 // A separator refutes a solution, for any system.
 pub fn block_excludes_filling() -> ()
@@ -65,4 +65,9 @@ pub fn peak_tells() -> ()
 // A store that takes the field's codes refuses one of them, being full, exactly if the peak exceeds its limit for the shape.
 pub fn peak_refuses() -> ()
     ensures { λ _. ⌜ PeakRefuses ⌝ }
+{}
+
+// A set of sensors that keeps the fence and has a filling lies in no set without one.
+pub fn fillings_grow() -> ()
+    ensures { λ _. ⌜ FillingsGrow ⌝ }
 {}
