@@ -20,3 +20,5 @@ pub mod Putting
 pub mod Room
 pub mod Weighted
 pub mod Growing
+pub mod Likeness
+pub mod Examples

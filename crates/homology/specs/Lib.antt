@@ -4,3 +4,4 @@ pub mod Reduction
 pub mod Certificate
 pub mod Sets
 pub mod Theorems
+pub mod Examples

@@ -1,6 +1,7 @@
 // The theory of coverage: linear systems over a field, the reduction that decides them, and certificates. Each function stands
 // for a theorem, which is its contract.
-ghost use Rattle.homology.specs.Theorems.{BlockExcludesFilling, OneSolution, OneSeparator, WhatIsDue, ReductionEnds, AddsReach, ReductionAnswers, CertificatePublished, CertificateDecides, OnePublished, PutsReduce, PeakTells, PeakRefuses, FillingsGrow};
+ghost use Rattle.homology.specs.Examples.{HubComputes};
+ghost use Rattle.homology.specs.Theorems.{BlockExcludesFilling, OneSolution, OneSeparator, WhatIsDue, ReductionEnds, AddsReach, ReductionAnswers, CertificatePublished, CertificateDecides, OnePublished, PutsReduce, PeakTells, PeakRefuses, FillingsGrow, AlikeSame};
 
 // A separator refutes a solution, for any system.
 pub fn block_excludes_filling() -> ()
@@ -70,4 +71,14 @@ pub fn peak_refuses() -> ()
 // A set of sensors that keeps the fence and has a filling lies in no set without one.
 pub fn fillings_grow() -> ()
     ensures { λ _. ⌜ FillingsGrow ⌝ }
+{}
+
+// Fields with the same order and answers, and sets that agree on the sensors of a survey, give the same certificate.
+pub fn alike_same() -> ()
+    ensures { λ _. ⌜ AlikeSame ⌝ }
+{}
+
+// The hub over GF(3): a filling with codes 1 2 1 1 by four additions, peak 26.
+pub fn hub_computes() -> ()
+    ensures { λ _. ⌜ HubComputes ⌝ }
 {}
