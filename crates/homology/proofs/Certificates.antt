@@ -1,7 +1,7 @@
 -- The certificate of a survey is published, decides whether there is a filling, and is the only published one.
-use mathlib.Core.Path.{_≡_, refl, sym, _∙_, ap}
+use mathlib.Core.Path.{_≡_, refl}
 use mathlib.Core.Bool.{Bool, true, false, cond, _&&_}
-use Prim.Native.Nat.{ℕ, suc, _+_, _-_}
+use Prim.Native.Nat.{ℕ, _+_, _-_}
 use lib.Dec.{eqb}
 use lib.ListN.{getD}
 use Rattle.std.proofs.shelf.Tests.{eqb-true, eqb-false, cond-both}
@@ -14,7 +14,7 @@ use Rattle.complex.specs.Systems.{System}
 use Rattle.complex.specs.Boundaries.{has-step, no-edge, no-triangle, fence-entry, boundary-entry, system}
 use Rattle.homology.specs.Linear.{Agree, CodedSystem, GivenSolution, GivenSeparator}
 use Rattle.homology.specs.Reduction.{low, reduction}
-use Rattle.homology.specs.Certificate.{Certificate, certificate, Published, HasFilling, vector, filling-codes, block-codes}
+use Rattle.homology.specs.Certificate.{certificate, Published, vector, filling-codes, block-codes}
 use Rattle.homology.specs.Theorems.{Answered, CertificatePublished, CertificateDecides, OnePublished}
 use Rattle.homology.proofs.Separation.{block-excludes-filling}
 use Rattle.homology.proofs.Unique.{only-solution, only-separator}

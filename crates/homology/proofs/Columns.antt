@@ -2,18 +2,18 @@
 use mathlib.Core.Path.{_≡_, refl, sym, _∙_, ap}
 use mathlib.Core.Bool.{Bool, true, false, cond, _&&_}
 use mathlib.Core.Logic.{inl, inr}
-use Prim.Native.Nat.{ℕ, zero, suc, _+_, _-_, _≤_, _<_}
+use Prim.Native.Nat.{ℕ, suc, _+_, _-_, _≤_, _<_}
 use native.Mathlib.Decide.{Fin·val-path as by-code}
 use native.Mathlib.Omega.{arith}
 use lib.Dec.{eqb, leb, ltb}
-use Rattle.std.proofs.shelf.Tests.{cases-bool, eq-eqb, cond-true, cond-false, cond-both, and-parts, and-from, leb-true, le-leb, lt-leb}
+use Rattle.std.proofs.shelf.Tests.{cases-bool, cond-true, cond-false, cond-both, and-parts, and-from, leb-true, le-leb}
 use Rattle.std.proofs.shelf.Ways.{tells}
 use Rattle.field.specs.Algebra.{Operations, Laws}
 use Rattle.field.specs.Arithmetic.{Arithmetic, FieldLaws, Code}
 use Rattle.field.proofs.Elements.{Element, elements, element-laws, zero-code, one-code}
 use Rattle.matrix.specs.Matrix.{Entries}
 use Rattle.complex.specs.Systems.{Vector, System, starting}
-use Rattle.homology.specs.Linear.{Codes, total, combination, Greatest, CodedSystem, Dependent, Capped}
+use Rattle.homology.specs.Linear.{Codes, total, combination, CodedSystem, Dependent, Capped}
 use Rattle.homology.proofs.Spans.{combine, combine-none, dot, LastRow}
 use Rattle.homology.proofs.Spans as spans
 use Rattle.homology.proofs.Equations.{times-zero}

@@ -8,7 +8,7 @@ use Rattle.std.proofs.shelf.Tests.{cases-lt}
 use Rattle.matrix.specs.Matrix.{Entries}
 use Rattle.homology.specs.Reduction.{low, clash, leftover, due, Addition}
 use Rattle.homology.specs.Theorems.{Apart, Quiet, WhatIsDue}
-use Rattle.homology.proofs.Lows.{due-leftover, due-clash, clash-next, clash-first, apart-clash, found-cases, one-owner, leftover-cases, Clashing, Left}
+use Rattle.homology.proofs.Lows.{due-leftover, due-clash, clash-next, clash-first, apart-clash, found-cases, one-owner, leftover-cases}
 
 -- an addition by its fields
 known : (a : Addition) (i j r : ℕ) → a .from ≡ i → a .to ≡ j → a .row ≡ r → a ≡ record { from = i; to = j; row = r }

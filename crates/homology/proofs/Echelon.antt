@@ -1,6 +1,6 @@
 -- Columns in echelon form: their lows differ, so the columns that are 0 are those that depend on earlier ones, and the lows are
 -- the last rows of combinations.
-use mathlib.Core.Path.{_≡_, refl, sym, _∙_, ap, subst}
+use mathlib.Core.Path.{_≡_, sym, _∙_, ap, subst}
 use mathlib.Core.Bool.{Bool, true, false}
 use mathlib.Core.Logic.{_⊎_, inl, inr}
 use Prim.Native.Nat.{ℕ, zero, suc, _+_, _≤_, _<_}

@@ -1,7 +1,7 @@
 -- The reduction ends, after at most T (T + 1) / 2 additions, and whatever makes the additions that are due comes to the same.
 use mathlib.Core.Path.{_≡_, refl, sym, _∙_, ap, ap₂, subst, subst₂}
 use mathlib.Core.Logic.{_⊎_, inl, inr}
-use Prim.Native.Nat.{ℕ, zero, suc, pred, _+_, _-_, _*_, _/_, _≤_, _<_}
+use Prim.Native.Nat.{ℕ, zero, suc, pred, _+_, _-_, _*_, _≤_, _<_}
 use native.Mathlib.Nat.{suc-mul, mul-suc}
 use native.Mathlib.Omega.{arith}
 use Rattle.std.specs.declared.option.Option.the-variants.{Some, None}
@@ -9,13 +9,12 @@ use Rattle.std.proofs.shelf.Tests.{cases-eq, cases-lt}
 use Rattle.field.specs.Arithmetic.{Arithmetic, FieldLaws}
 use Rattle.matrix.specs.Matrix.{Entries}
 use Rattle.complex.specs.Systems.{System, starting}
-use Rattle.homology.specs.Linear.{CodedSystem}
 use Rattle.homology.specs.Reduction.{low, clash, due, added, Addition, Reduces, Adds, course, enough, reduction}
 use Rattle.homology.specs.Reduction.Reduces.{reduced, adds}
 use Rattle.homology.specs.Reduction.Adds.{start, then-adds}
 use Rattle.homology.specs.Theorems.{Quiet, Ended, ReductionEnds, AddsReach}
 use Rattle.homology.proofs.Columns.{Coded, starting-codes}
-use Rattle.homology.proofs.Lows.{some-not-none, some-same, due-leftover, due-clash, low-nonzero, low-above, low-upper, clash-next, clash-first, found-cases, clash-same, leftover-cases, Left, Clashing}
+use Rattle.homology.proofs.Lows.{some-not-none, some-same, due-leftover, due-clash, low-nonzero, low-above, low-upper, clash-next, clash-first, found-cases, clash-same, leftover-cases}
 use Rattle.homology.proofs.Additions.{Invariant, invariant-start, invariant-later, invariant-added, lows-kept, turn, added-zero, added-clear}
 use Rattle.homology.proofs.Pivots.{pivots, pivots-most, pivots-le, pivots-less, pivots-same}
 

@@ -1,7 +1,7 @@
 -- Small equations in any field, for terms that are known to be 0 or 1.
 use mathlib.Core.Path.{_≡_, sym, _∙_, ap, ap₂}
 use Rattle.field.specs.Algebra.{Operations, Laws}
-use Rattle.field.proofs.Rings.{ring, cancel, mul-zero, zero-mul, one-mul, zero-add, neg-zero, zero-product}
+use Rattle.field.proofs.Rings.{ring, mul-zero, zero-mul, one-mul, zero-add, zero-product}
 
 module _ {E : Type 0} (k : Operations E) (laws : Laws k) where
   open Operations k using (zero as 𝟘, one as 𝟙, add as _⊕_, mul as _⊗_, neg, inv)

@@ -1,9 +1,9 @@
 -- The puts of loading and reducing lead from the blank matrix to the reduced one.
 use mathlib.Core.Path.{_≡_, refl, sym, _∙_, ap}
-use mathlib.Core.List.{List, [], _∷_, _++_, append-nil}
+use mathlib.Core.List.{[], _∷_, _++_, append-nil}
 use mathlib.Core.Bool.{false, cond, _&&_, not}
 use mathlib.Core.Logic.{inl, inr}
-use Prim.Native.Nat.{ℕ, zero, suc, _+_, _-_, _≤_, _<_}
+use Prim.Native.Nat.{ℕ, zero, suc, _+_, _-_, _≤_}
 use native.Mathlib.Omega.{arith}
 use lib.Dec.{eqb, leb, ltb}
 use Rattle.std.specs.declared.option.Option.{Option}
@@ -11,7 +11,6 @@ use Rattle.std.specs.declared.option.Option.the-variants.{Some, None}
 use Rattle.std.proofs.shelf.Tests.{cases-eq, ne-eqb, eq-eqb, cond-true, cond-false}
 use Rattle.std.proofs.shelf.Ways.{tells}
 use Rattle.field.specs.Arithmetic.{Arithmetic}
-use Rattle.matrix.specs.declared.put.Put.{Put}
 use Rattle.matrix.specs.Matrix.{Matrix, Entries, over, blank, inside, Outside, put-at, put-into, played}
 use Rattle.matrix.proofs.Matrices.{same-entries}
 use Rattle.matrix.proofs.Puts.{played-++}

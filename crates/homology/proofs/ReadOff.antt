@@ -16,7 +16,7 @@ use Rattle.matrix.specs.Matrix.{Entries}
 use Rattle.complex.specs.Systems.{Vector, System, starting}
 use Rattle.homology.specs.Linear.{total, combination, Independent, Capped, GivenSolution, GivenSeparator}
 use Rattle.homology.specs.Reduction.{low, owner, due, reduction}
-use Rattle.homology.specs.Certificate.{vector, listed, values, filling-codes, block-codes}
+use Rattle.homology.specs.Certificate.{vector, values, filling-codes, block-codes}
 use Rattle.homology.specs.Theorems.{ReductionAnswers}
 use Rattle.homology.proofs.Sums.{sum-below}
 use Rattle.homology.proofs.Spans.{combine, combine-neg, dot}

@@ -1,8 +1,8 @@
 -- A reduced matrix is in echelon form: its columns with a low are the independent ones, and its lows are the capped rows.
-use mathlib.Core.Path.{_≡_, refl, sym, _∙_, ap, ap₂}
+use mathlib.Core.Path.{_≡_, sym, _∙_, ap, ap₂}
 use mathlib.Core.Bool.{Bool, true, false, not}
 use mathlib.Core.Logic.{inl, inr}
-use Prim.Native.Nat.{ℕ, zero, suc, _+_, _≤_, _<_}
+use Prim.Native.Nat.{ℕ, suc, _+_, _≤_, _<_}
 use native.Mathlib.Decide.{Fin·val-path as by-code}
 use native.Mathlib.Omega.{arith}
 use lib.Dec.{eqb}
@@ -18,7 +18,7 @@ use Rattle.homology.specs.Reduction.{low, due}
 use Rattle.homology.proofs.Sums.{sum-below}
 use Rattle.homology.proofs.Spans.{combine, combine-last, combine-front}
 use Rattle.homology.proofs.Equations.{one-times, zero-plus, minus-same, minus-left}
-use Rattle.homology.proofs.Columns.{Coded, at, inside, inside-parts, cut, cut-in, cut-out, column, column-of, column-out, combine-out, dependent-up, capped-up, capped-down}
+use Rattle.homology.proofs.Columns.{Coded, at, inside, inside-parts, cut-in, cut-out, column, column-of, column-out, combine-out, dependent-up, capped-up, capped-down}
 use Rattle.homology.proofs.Echelon.{Echelon, Unitriangular, echelon-fewer, dependent-dead, last-row-low, low-last-row}
 use Rattle.homology.proofs.Lows.{low-most, low-nonzero, low-above, none-apart, none-quiet}
 use Rattle.homology.proofs.Additions.{Invariant, starts, base}

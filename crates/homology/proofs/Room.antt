@@ -1,25 +1,24 @@
 -- The puts of loading and reducing are all taken exactly if the peak is within a store's limit.
 use mathlib.Core.Path.{_≡_, refl, sym, _∙_, ap}
-use mathlib.Core.List.{List, [], _∷_, _++_}
+use mathlib.Core.List.{List, [], _∷_}
 use mathlib.Core.Bool.{Bool, true, false, cond, _&&_, not}
 use mathlib.Core.Logic.{inl, inr}
-use Prim.Native.Nat.{ℕ, zero, suc, _+_, _≤_, _<_, max}
+use Prim.Native.Nat.{ℕ, zero, suc, _+_, _≤_, max}
 use native.Mathlib.Omega.{arith}
 use lib.Dec.{eqb, leb}
 use Rattle.std.specs.declared.option.Option.{Option}
 use Rattle.std.specs.declared.option.Option.the-variants.{Some, None}
 use Rattle.std.specs.shelf.Lists.{All}
 use Rattle.std.proofs.shelf.Elements.{all-append}
-use Rattle.std.proofs.shelf.Tests.{cases-lt, le-leb, lt-leb, cases-bool}
+use Rattle.std.proofs.shelf.Tests.{cases-lt, le-leb, lt-leb}
 use Rattle.std.proofs.shelf.Ways.{tells}
-use Rattle.field.specs.Arithmetic.{Arithmetic, FieldLaws, Code}
+use Rattle.field.specs.Arithmetic.{Arithmetic}
 use Rattle.matrix.specs.declared.put.Put.{Put}
 use Rattle.matrix.specs.Matrix.{Matrix, Entries, within, inside, blank, one-if-not-zero, count, put-at, put-into, highest}
-use Rattle.matrix.specs.Terms.{Terms}
 use Rattle.matrix.specs.Theorems.{Fits}
 use Rattle.matrix.proofs.Counts.{count-put, count-blank}
 use Rattle.matrix.proofs.Puts.{highest-first, highest-tells}
-use Rattle.complex.specs.Systems.{System, starting}
+use Rattle.complex.specs.Systems.{starting}
 use Rattle.homology.specs.Reduction.{due, factor, added, Addition, column-puts, loading, addition-puts, course, enough, reduction, all-puts}
 use Rattle.homology.specs.Theorems.{takes-all, PeakTells, PeakRefuses}
 use Rattle.homology.proofs.Columns.{Coded, starting-codes}

@@ -7,7 +7,7 @@ use Rattle.field.specs.Algebra.{Operations, Laws}
 use Rattle.field.specs.Arithmetic.{Arithmetic, FieldLaws, Code}
 use Rattle.field.proofs.Elements.{Element, elements, element-laws, element, element-code, product-clipped}
 use Rattle.complex.specs.Systems.{Vector, System}
-use Rattle.homology.specs.Linear.{Codes, total, combination, Solution, Separator}
+use Rattle.homology.specs.Linear.{Codes, total, Solution, Separator}
 use Rattle.homology.specs.Theorems.{BlockExcludesFilling}
 use Rattle.homology.proofs.Sums.{sum-below}
 use Rattle.homology.proofs.Spans.{combine, dot, dot-spanned}

@@ -3,13 +3,13 @@
 use mathlib.Core.Path.{_≡_, refl, sym, _∙_, ap, subst}
 use mathlib.Core.Bool.{cond}
 use mathlib.Core.Logic.{inl, inr}
-use Prim.Native.Nat.{ℕ, zero, suc, _+_, _≤_, _<_}
+use Prim.Native.Nat.{ℕ, zero, suc, _≤_, _<_}
 use native.Mathlib.Omega.{arith}
 use lib.Dec.{eqb}
 use Rattle.std.specs.Iters.{counting}
 use Rattle.std.proofs.shelf.Tests.{cases-eq, ne-eqb, eq-eqb}
 use Rattle.field.specs.Algebra.{Operations, Laws}
-use Rattle.field.proofs.Rings.{ring, cancel, zero-mul, mul-zero, one-mul, add-mul, add-cancel, neg-mul, neg-neg, neg-zero, add-zero, mul-left-comm}
+use Rattle.field.proofs.Rings.{ring, cancel, zero-mul, mul-zero, one-mul, add-mul, add-cancel, neg-mul, neg-neg, neg-zero, mul-left-comm}
 use Rattle.homology.proofs.Sums.{sum, sum-same, sum-zero, sum-none, sum-add, sum-scale, sum-swap, sum-last, sum-below}
 
 module _ {E R : Type 0} (k : Operations E) (d : ℕ → R → E) where

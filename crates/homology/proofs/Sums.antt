@@ -1,5 +1,5 @@
 -- Finite sums in a field, over a list and over a run of numbers.
-use mathlib.Core.Path.{_≡_, refl, sym, _∙_, ap, ap₂}
+use mathlib.Core.Path.{_≡_, refl, sym, _∙_, ap}
 use mathlib.Core.List.{List, [], _∷_}
 use mathlib.Core.Logic.{inl, inr}
 use Prim.Native.Nat.{ℕ, zero, suc, _+_, _≤_, _<_}
@@ -7,7 +7,7 @@ use native.Mathlib.Nat.{add-zero as plus-zero}
 use native.Mathlib.Omega.{arith}
 use Rattle.std.specs.Iters.{counting}
 use Rattle.std.proofs.shelf.Tests.{cases-eq}
-use Rattle.field.specs.Algebra.{Operations, Laws, Homomorphism}
+use Rattle.field.specs.Algebra.{Operations, Laws}
 use Rattle.field.proofs.Rings.{add-left-comm, zero-add, mul-zero}
 
 abbrev pub sum : {E X : Type 0} → Operations E → List X → (X → E) → E

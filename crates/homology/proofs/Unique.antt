@@ -1,6 +1,5 @@
 -- The given solution and the given separator of a system are the only ones.
 use mathlib.Core.Path.{_≡_, refl, sym, _∙_, ap, ap₂, subst}
-use mathlib.Core.Bool.{false}
 use mathlib.Core.Logic.{_⊎_, inl, inr}
 use Prim.Native.Nat.{ℕ, zero, suc, _-_, _≤_, _<_}
 use native.Mathlib.Decide.{Fin·val-path as by-code}
@@ -11,7 +10,7 @@ use Rattle.field.specs.Arithmetic.{Arithmetic, FieldLaws}
 use Rattle.field.proofs.Rings.{zero-product}
 use Rattle.field.proofs.Elements.{Element, elements, element-laws, product-zero, zero-product-code}
 use Rattle.complex.specs.Systems.{Vector, System, starting}
-use Rattle.homology.specs.Linear.{Codes, Agree, Greatest, CodedSystem, Capped, Remainder, GivenSolution, GivenSeparator}
+use Rattle.homology.specs.Linear.{Agree, Greatest, Capped, Remainder, GivenSolution, GivenSeparator}
 use Rattle.homology.specs.Theorems.{OneSolution, OneSeparator}
 use Rattle.homology.proofs.Sums.{sum-only}
 use Rattle.homology.proofs.Spans.{combine, combine-sub, combine-none, unique, same-from, dot, dot-same, dot-add, dot-sub, dot-spanned}

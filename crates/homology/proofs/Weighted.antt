@@ -10,7 +10,7 @@ use Rattle.std.specs.shelf.Lists.{All}
 use Rattle.std.proofs.shelf.Elements.{all-append}
 use Rattle.std.proofs.shelf.Tests.{both-ways}
 use Rattle.field.specs.Algebra.{Operations, Laws}
-use Rattle.field.proofs.Rings.{zero-mul, zero-add}
+use Rattle.field.proofs.Rings.{zero-mul}
 use Rattle.survey.specs.Lists.{gather}
 use Rattle.homology.proofs.Sums.{sum}
 use Rattle.homology.proofs.Equations.{times-zero, zero-plus}

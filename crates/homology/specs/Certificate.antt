@@ -9,7 +9,7 @@ use Rattle.matrix.specs.Matrix.{Entries}
 use Rattle.survey.specs.declared.edge.Edge.{Edge}
 use Rattle.survey.specs.declared.edge.Triangle.{Triangle}
 use Rattle.survey.specs.Surveys.{Survey, Sensors, edges, triangles}
-use Rattle.complex.specs.Systems.{Vector, System}
+use Rattle.complex.specs.Systems.{Vector}
 use Rattle.complex.specs.Boundaries.{system}
 use Rattle.homology.specs.Linear.{total, Solution, Separator, GivenSolution, GivenSeparator}
 use Rattle.homology.specs.Reduction.{low, owner, reduction}

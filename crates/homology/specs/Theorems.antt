@@ -17,7 +17,7 @@ use Rattle.survey.specs.Surveys.{Survey, Sensors}
 use Rattle.complex.specs.Systems.{Vector, System, starting}
 use Rattle.complex.specs.Boundaries.{system}
 use Rattle.homology.specs.Linear.{Agree, CodedSystem, Solution, Separator, GivenSolution, GivenSeparator}
-use Rattle.homology.specs.Reduction.{low, due, Addition, Reduces, Adds, enough, reduction, all-puts, peak}
+use Rattle.homology.specs.Reduction.{low, due, Reduces, Adds, enough, reduction, all-puts, peak}
 use Rattle.homology.specs.Certificate.{HasFilling, Certificate, certificate, Published, vector, filling-codes, block-codes}
 use Rattle.homology.specs.Sets.{Inside, Same, KeepsFence}
 
