@@ -1,0 +1,5 @@
+use Rattle.homology.proofs.alike_same.Needs as need
+use Rattle.homology.proofs.Likeness.{alike-same}
+
+abbrev pub returns : need.returns
+returns c = alike-same

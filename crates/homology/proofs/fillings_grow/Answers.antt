@@ -1,0 +1,5 @@
+use Rattle.homology.proofs.fillings_grow.Needs as need
+use Rattle.homology.proofs.Growing.{fillings-grow}
+
+abbrev pub returns : need.returns
+returns c = fillings-grow

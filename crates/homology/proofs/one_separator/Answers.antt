@@ -1,0 +1,5 @@
+use Rattle.homology.proofs.one_separator.Needs as need
+use Rattle.homology.proofs.Unique.{only-separator}
+
+abbrev pub returns : need.returns
+returns c = only-separator

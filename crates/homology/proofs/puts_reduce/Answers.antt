@@ -1,0 +1,5 @@
+use Rattle.homology.proofs.puts_reduce.Needs as need
+use Rattle.homology.proofs.Putting.{puts-reduce}
+
+abbrev pub returns : need.returns
+returns c = puts-reduce

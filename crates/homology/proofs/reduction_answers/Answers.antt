@@ -1,0 +1,5 @@
+use Rattle.homology.proofs.reduction_answers.Needs as need
+use Rattle.homology.proofs.ReadOff.{reduction-answers}
+
+abbrev pub returns : need.returns
+returns c = reduction-answers
