@@ -25,8 +25,9 @@ fn spaced(heap: Global, numbers: &[u16]) -> Result<String, AllocError> {
 // What a survey holds.
 pub fn show_survey(rt: &LibcRuntime, survey: &Survey) -> io::Result<()> {
     let n = survey.count();
-    let links = survey.link_count();
-    let triangles = survey.triangle_count();
+    let all = survey.all();
+    let links = survey.edges_among(&all);
+    let triangles = survey.triangles_among(&all);
     println!(rt, "n {n} links {links} triangles {triangles}")?;
     let fence = spaced(rt.alloc(), survey.fence())?;
     println!(rt, "fence{fence}")

@@ -1,6 +1,7 @@
 // The console: answers commands from standard input, line by line.
 mod answers;
 mod fields;
+mod lists;
 mod quote;
 mod session;
 mod storage;

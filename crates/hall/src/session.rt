@@ -4,6 +4,7 @@ use crate::answers::show_roster;
 use crate::answers::show_survey;
 use crate::fields::AnyField;
 use crate::fields::AnyFieldField;
+use crate::lists::show_complex;
 use crate::quote::quoted;
 use crate::quote::unquoted;
 use crate::storage::Kind;
@@ -100,6 +101,7 @@ impl Session {
             }
             "read" => self.read(rt),
             "roster" => self.show(rt),
+            "complex" => self.show_lists(rt),
             "shape" => shape(rt, store),
             _ => unknown(rt, line),
         }
@@ -162,6 +164,13 @@ impl Session {
         }
         let shown = quoted(rt.alloc(), &buffer)?;
         println!(rt, "buffer {shown}")
+    }
+
+    fn show_lists(&self, rt: &LibcRuntime) -> io::Result<()> {
+        match &self.roster {
+            Some(roster) => show_complex(rt, roster),
+            None => println!(rt, "no roster"),
+        }
     }
 
     fn show(&self, rt: &LibcRuntime) -> io::Result<()> {

@@ -45,6 +45,14 @@ read-after (refused k) old = old
 abbrev pub state-in : Meaning → ℕ → Option State
 state-in m x = cond (is-sensor (m .survey) x) (Some (cond (member x (m .survey .fence)) Fence (cond (m .on x) On Off))) None
 
+-- the sensors on, with those of the fence or without them
+abbrev pub chosen : Meaning → Bool → Sensors
+chosen m fence x = m .on x && (fence || not (member x (m .survey .fence)))
+
+-- those that thinning may drop: on, and not on the fence
+abbrev pub candidates : Meaning → Sensors
+candidates m = chosen m false
+
 -- may x be switched?
 abbrev pub Switchable : Meaning → ℕ → Type 0
 Switchable m x = (is-sensor (m .survey) x ≡ true) × (member x (m .survey .fence) ≡ false)

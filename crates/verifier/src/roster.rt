@@ -12,3 +12,4 @@ pub struct Roster {
 }
 
 pub mod calls;
+pub mod sets;
