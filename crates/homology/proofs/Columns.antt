@@ -35,11 +35,11 @@ module _ (S : System) where
   abbrev T : ℕ
   T = S .columns
 
-  in-matrix : (r t m v x : ℕ) → 1 ≤ r → r ≤ E → 1 ≤ t → t ≤ T → cond (leb 1 r && leb r E && leb 1 t && leb t T) m v ≡ m
-  in-matrix r t m v x a b c d = grind (arith, tells)
+  in-matrix : (r t m v : ℕ) → 1 ≤ r → r ≤ E → 1 ≤ t → t ≤ T → cond (leb 1 r && leb r E && leb 1 t && leb t T) m v ≡ m
+  in-matrix r t m v a b c d = grind (arith, tells)
 
   pub starting-entry : (r t : ℕ) → 1 ≤ r → r ≤ E → 1 ≤ t → t ≤ T → starting S r t ≡ S .matrix r t
-  starting-entry r t a b c d = in-matrix r t _ _ 0 a b c d
+  starting-entry r t a b c d = in-matrix r t _ _ a b c d
 
   in-target : (r c m v x : ℕ) → 1 ≤ r → r ≤ E → c ≡ suc T → cond (leb 1 r && leb r E && leb 1 c && leb c T) m (cond (leb 1 r && leb r E && eqb c (T + 1)) v x) ≡ v
   in-target r c m v x a b e = grind (arith, tells)
@@ -65,59 +65,39 @@ starting-codes F f S h r c =
     (λ t. let p = and-parts _ _ t in let q = and-parts _ _ (p .0) in h .aims r (leb-true 1 r (q .0)) (leb-true r (S .rows) (q .1)))
     (λ _. cond-both (ltb (S .rows) r && leb r (S .rows + S .columns) && eqb (r - S .rows) c) 1 0 (Code F) (λ _. one-code F f) (λ _. zero-code F f)))
 
+-- the rows 1 to E
+module _ (S : System) where
+  abbrev pub in-rows : ℕ → Bool
+  in-rows r = leb 1 r && leb r (S .rows)
+
+  is-in-rows : (r : ℕ) → 1 ≤ r → r ≤ S .rows → in-rows r ≡ true
+  is-in-rows r l m = and-from _ _ (le-leb 1 r l) (le-leb r (S .rows) m)
+
+  pub row-bounds : (r : ℕ) → in-rows r ≡ true → (1 ≤ r) × (r ≤ S .rows)
+  row-bounds r t = let p = and-parts _ _ t in (leb-true 1 r (p .0), leb-true r (S .rows) (p .1))
+
 -- Over elements columns are counted from 0, the target is the last of them, and rows from 1: row 0 and the rows from E + 1 on are
 -- 0, so that equations hold in every row.
-module _ (F : Arithmetic) (f : FieldLaws F) (S : System) (coded : Coded F (starting S)) where
+module _ (F : Arithmetic) (f : FieldLaws F) (S : System) where
   abbrev K : Operations (Element F)
   K = elements F f
 
   abbrev laws : Laws K
   laws = element-laws F f
 
-  abbrev pub inside : ℕ → Bool
-  inside r = leb 1 r && leb r (S .rows)
-
-  pub is-inside : (r : ℕ) → 1 ≤ r → r ≤ S .rows → inside r ≡ true
-  is-inside r l m = and-from _ _ (le-leb 1 r l) (le-leb r (S .rows) m)
-
-  pub inside-parts : (r : ℕ) → inside r ≡ true → (1 ≤ r) × (r ≤ S .rows)
-  inside-parts r t = let p = and-parts _ _ t in (leb-true 1 r (p .0), leb-true r (S .rows) (p .1))
-
   -- x in the rows 1 to E, and 0 elsewhere
   abbrev pub cut : Element F → ℕ → Element F
-  cut x r = cond (inside r) x (K .zero)
+  cut x r = cond (in-rows S r) x (K .zero)
 
   pub cut-in : (x : Element F) (r : ℕ) → 1 ≤ r → r ≤ S .rows → cut x r ≡ x
-  cut-in x r l m = cond-true _ _ _ (is-inside r l m)
+  cut-in x r l m = cond-true _ _ _ (is-in-rows S r l m)
 
-  pub cut-out : (x : Element F) (r : ℕ) → inside r ≡ false → cut x r ≡ K .zero
+  pub cut-out : (x : Element F) (r : ℕ) → in-rows S r ≡ false → cut x r ≡ K .zero
   cut-out x r o = cond-false _ _ _ o
 
   -- a vector of codes as a column
   abbrev pub column-of : (v : Vector) → Codes F v → ℕ → Element F
   column-of v codes r = cut (v r, codes r) r
-
-  abbrev pub column : ℕ → ℕ → Element F
-  column t r = cut (at F (starting S) coded r (suc t)) r
-
-  pub column-entry : (t r : ℕ) → t < S .columns → 1 ≤ r → r ≤ S .rows → column t r .0 ≡ S .matrix r (suc t)
-  column-entry t r q l m = ap (λ z. z .0) (cut-in (at F (starting S) coded r (suc t)) r l m) ∙ starting-entry S r (suc t) l m (omega arith) (omega arith)
-
-  pub column-target : (r : ℕ) → 1 ≤ r → r ≤ S .rows → column (S .columns) r .0 ≡ S .target r
-  column-target r l m = ap (λ z. z .0) (cut-in (at F (starting S) coded r (suc (S .columns))) r l m) ∙ starting-target S r l m
-
-  pub column-out : (t r : ℕ) → inside r ≡ false → column t r ≡ K .zero
-  column-out t r o = cut-out (at F (starting S) coded r (suc t)) r o
-
-  pub combine-out : (n : ℕ) (c : ℕ → Element F) (r : ℕ) → inside r ≡ false → combine K column n c r ≡ K .zero
-  combine-out n c r o = combine-none K laws column n c r (λ t. column-out t r o)
-
-  -- a combination of codes is the combination of their elements
-  pub combine-codes : (n : ℕ) → n ≤ S .columns → (x : Vector) (cx : Codes F x) (r : ℕ) → 1 ≤ r → r ≤ S .rows
-      → combine K column n (lifted F x cx) r .0 ≡ combination F n (S .matrix) x r
-  combine-codes n q x cx r l m =
-      sym (total-sum F f n (λ i. K .mul (x i, cx i) (cut (at F (starting S) coded r i) r)))
-      ∙ total-same F f n _ _ (λ i o p. ap (F .product (x i)) (ap (λ z. z .0) (cut-in (at F (starting S) coded r i) r l m) ∙ starting-entry S r i l m o (omega arith)))
 
   -- a sum of products over the rows 1 to E, with weights y
   abbrev pub weights : (y : Vector) → Codes F y → ℕ → Element F
@@ -129,52 +109,75 @@ module _ (F : Arithmetic) (f : FieldLaws F) (S : System) (coded : Coded F (start
       sym (total-sum-0 F f (S .rows) (λ r. K .mul (weights y cy r) (x r)) (times-zero K laws (weights y cy 0) (x 0) z))
       ∙ total-same F f (S .rows) _ _ (λ r l m. ap (F .product (y r)) (h r l m))
 
-  -- dependence and capped rows
-  pub dependent-up : (t : ℕ) → t < S .columns → Dependent F S (suc t) → spans.Dependent K column t
-  dependent-up t l h = (
-    lifted F (h .0) (h .1),
-    λ r. elim (cases-bool (inside r)) [
-      | inl i ↦
-          let p = inside-parts r i in
-          by-code (combine-codes t (omega arith) (h .0) (h .1) r (p .0) (p .1) ∙ h .2 r (p .0) (p .1) ∙ sym (column-entry t r l (p .0) (p .1)))
-      | inr o ↦ combine-out t (lifted F (h .0) (h .1)) r o ∙ sym (column-out t r o)
-    ],
-  )
+  module _ (coded : Coded F (starting S)) where
+    abbrev pub column : ℕ → ℕ → Element F
+    column t r = cut (at F (starting S) coded r (suc t)) r
 
-  pub dependent-down : (t : ℕ) → t < S .columns → spans.Dependent K column t → Dependent F S (suc t)
-  dependent-down t l h = (
-    lowered F (h .0),
-    lowered-codes F f (h .0),
-    λ r p q. sym (combine-codes t (omega arith) (lowered F (h .0)) (lowered-codes F f (h .0)) r p q) ∙ ap (λ z. z .0) (h .1 r) ∙ column-entry t r l p q,
-  )
+    pub column-entry : (t r : ℕ) → t < S .columns → 1 ≤ r → r ≤ S .rows → column t r .0 ≡ S .matrix r (suc t)
+    column-entry t r q l m = ap (λ z. z .0) (cut-in (at F (starting S) coded r (suc t)) r l m) ∙ starting-entry S r (suc t) l m (omega arith) (omega arith)
 
-  pub capped-up : (e : ℕ) → Capped F S e → LastRow K column (S .columns) e
-  capped-up e h =
-      let c = lifted F (h .0) (h .1) in
-      let value : (r : ℕ) → 1 ≤ r → r ≤ S .rows → combine K column (S .columns) c r .0 ≡ combination F (S .columns) (S .matrix) (h .0) r =
-      combine-codes (S .columns) (omega arith) (h .0) (h .1) in
-      record {
-        vector = combine K column (S .columns) c;
-        spanned = (c, λ r. refl);
-        here = λ z. h .2 .nonzero (sym (value e (h .2 .from) (h .2 .to)) ∙ ap (λ z. z .0) z);
-        beyond = λ r l. elim (cases-bool (inside r)) [
-          | inl i ↦ let p = inside-parts r i in by-code (value r (p .0) (p .1) ∙ h .2 .above r l (p .1))
-          | inr o ↦ combine-out (S .columns) c r o
-        ];
-      }
+    pub column-target : (r : ℕ) → 1 ≤ r → r ≤ S .rows → column (S .columns) r .0 ≡ S .target r
+    column-target r l m = ap (λ z. z .0) (cut-in (at F (starting S) coded r (suc (S .columns))) r l m) ∙ starting-target S r l m
 
-  pub capped-down : (e : ℕ) → 1 ≤ e → e ≤ S .rows → LastRow K column (S .columns) e → Capped F S e
-  capped-down e l m h =
-      let x = lowered F (h .spanned .0) in
-      let codes = lowered-codes F f (h .spanned .0) in
-      let value : (r : ℕ) → 1 ≤ r → r ≤ S .rows → combination F (S .columns) (S .matrix) x r ≡ h .vector r .0 = λ r p q.
-      sym (combine-codes (S .columns) (omega arith) x codes r p q) ∙ ap (λ z. z .0) (h .spanned .1 r) in (
-        x,
-        codes,
+    pub column-out : (t r : ℕ) → in-rows S r ≡ false → column t r ≡ K .zero
+    column-out t r o = cut-out (at F (starting S) coded r (suc t)) r o
+
+    pub combine-out : (n : ℕ) (c : ℕ → Element F) (r : ℕ) → in-rows S r ≡ false → combine K column n c r ≡ K .zero
+    combine-out n c r o = combine-none K laws column n c r (λ t. column-out t r o)
+
+    -- a combination of codes is the combination of their elements
+    pub combine-codes : (n : ℕ) → n ≤ S .columns → (x : Vector) (cx : Codes F x) (r : ℕ) → 1 ≤ r → r ≤ S .rows
+        → combine K column n (lifted F x cx) r .0 ≡ combination F n (S .matrix) x r
+    combine-codes n q x cx r l m =
+        sym (total-sum F f n (λ i. K .mul (x i, cx i) (cut (at F (starting S) coded r i) r)))
+        ∙ total-same F f n _ _ (λ i o p. ap (F .product (x i)) (ap (λ z. z .0) (cut-in (at F (starting S) coded r i) r l m) ∙ starting-entry S r i l m o (omega arith)))
+
+    -- dependence and capped rows
+    pub dependent-up : (t : ℕ) → t < S .columns → Dependent F S (suc t) → spans.Dependent K column t
+    dependent-up t l h = (
+      lifted F (h .0) (h .1),
+      λ r. elim (cases-bool (in-rows S r)) [
+        | inl i ↦
+            let p = row-bounds S r i in
+            by-code (combine-codes t (omega arith) (h .0) (h .1) r (p .0) (p .1) ∙ h .2 r (p .0) (p .1) ∙ sym (column-entry t r l (p .0) (p .1)))
+        | inr o ↦ combine-out t (lifted F (h .0) (h .1)) r o ∙ sym (column-out t r o)
+      ],
+    )
+
+    pub dependent-down : (t : ℕ) → t < S .columns → spans.Dependent K column t → Dependent F S (suc t)
+    dependent-down t l h = (
+      lowered F (h .0),
+      lowered-codes F f (h .0),
+      λ r p q. sym (combine-codes t (omega arith) (lowered F (h .0)) (lowered-codes F f (h .0)) r p q) ∙ ap (λ z. z .0) (h .1 r) ∙ column-entry t r l p q,
+    )
+
+    pub capped-up : (e : ℕ) → Capped F S e → LastRow K column (S .columns) e
+    capped-up e h =
+        let c = lifted F (h .0) (h .1) in
+        let value : (r : ℕ) → 1 ≤ r → r ≤ S .rows → combine K column (S .columns) c r .0 ≡ combination F (S .columns) (S .matrix) (h .0) r =
+        combine-codes (S .columns) (omega arith) (h .0) (h .1) in
         record {
-          from = l;
-          to = m;
-          nonzero = λ z. h .here (by-code (sym (value e l m) ∙ z));
-          above = λ r p q. value r (omega arith) q ∙ ap (λ z. z .0) (h .beyond r p);
-        },
-      )
+          vector = combine K column (S .columns) c;
+          spanned = (c, λ r. refl);
+          here = λ z. h .2 .nonzero (sym (value e (h .2 .from) (h .2 .to)) ∙ ap (λ z. z .0) z);
+          beyond = λ r l. elim (cases-bool (in-rows S r)) [
+            | inl i ↦ let p = row-bounds S r i in by-code (value r (p .0) (p .1) ∙ h .2 .above r l (p .1))
+            | inr o ↦ combine-out (S .columns) c r o
+          ];
+        }
+
+    pub capped-down : (e : ℕ) → 1 ≤ e → e ≤ S .rows → LastRow K column (S .columns) e → Capped F S e
+    capped-down e l m h =
+        let x = lowered F (h .spanned .0) in
+        let codes = lowered-codes F f (h .spanned .0) in
+        let value : (r : ℕ) → 1 ≤ r → r ≤ S .rows → combination F (S .columns) (S .matrix) x r ≡ h .vector r .0 = λ r p q.
+        sym (combine-codes (S .columns) (omega arith) x codes r p q) ∙ ap (λ z. z .0) (h .spanned .1 r) in (
+          x,
+          codes,
+          record {
+            from = l;
+            to = m;
+            nonzero = λ z. h .here (by-code (sym (value e l m) ∙ z));
+            above = λ r p q. value r (omega arith) q ∙ ap (λ z. z .0) (h .beyond r p);
+          },
+        )

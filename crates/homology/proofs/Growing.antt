@@ -29,7 +29,7 @@ use Rattle.homology.specs.Theorems.{FillingsGrow}
 use Rattle.homology.proofs.Sums.{sum-below}
 use Rattle.homology.proofs.Totals.{total-sum, lifted, lowered, lowered-codes}
 use Rattle.homology.proofs.Certificates.{boundary-is-code, fence-is-code}
-use Rattle.homology.proofs.Weighted.{all-gather, all-gather-over, weighted, weighted-sum, weighted-zero, Widens, leads-one, leads-gather, leads-widens}
+use Rattle.homology.proofs.Weighted.{all-if, all-gather, all-gather-over, weighted, weighted-sum, weighted-zero, Widens, leads-one, leads-gather, leads-widens}
 
 true-from : (b : Bool) → T b → b ≡ true
 true-from true t = refl
@@ -56,13 +56,13 @@ step-ends u v (x ∷ xs) e =
     let r = step-from-ends u v x (x ∷ xs) e in
     (r .0, elim (r .1) [ inl m ↦ m | inr q ↦ or-left _ _ (eq-eqb v x q) ])
 
+joined-ways : (l pa pb qa qb k : Bool) → (pa ≡ true → qa ≡ true) → (pb ≡ true → qb ≡ true) → (l && pa && pb && k) ≡ true → (l && qa && qb && k) ≡ true
+joined-ways l pa pb qa qb k f g h = grind (arith, tells)
+
 -- Let the sensors p be among q, and have the fence. Every triangle of p is one of q, so the weights of a filling of p are weights
 -- of triangles of q, with 0 at the others. On an edge of p nothing changes. An edge of q that is none of p is no side of a
 -- triangle of p, and no step of the fence: both sides are 0 there.
 module _ (s : Survey) (p q : Sensors) (more : Inside p q) (keeps : KeepsFence s p) where
-  joined-ways : (l pa pb qa qb k : Bool) → (pa ≡ true → qa ≡ true) → (pb ≡ true → qb ≡ true) → (l && pa && pb && k) ≡ true → (l && qa && qb && k) ≡ true
-  joined-ways l pa pb qa qb k f g h = grind (arith, tells)
-
   joined-stays : (a b : ℕ) → joined s p a b ≡ true → joined s q a b ≡ true
   joined-stays a b e =
       let on : (x : ℕ) → p x ≡ true → q x ≡ true = λ x e. true-from (q x) (more x (from-true (p x) e)) in
@@ -84,20 +84,16 @@ module _ (s : Survey) (p q : Sensors) (more : Inside p q) (keeps : KeepsFence s 
       and-from _ _ (and-from _ _ (joined-stays a b (h .0)) (joined-stays a c (h .1))) (joined-stays b c (h .2))
 
   -- the sides of listed triangles are joined, and so are listed edges
-  one-all : {X : Type 0} (P : X → Type 0) (x : X) (o : Bool) → (o ≡ true → P x) → All P (cond o (x ∷ []) [])
-  one-all P x true h = (h refl, tt)
-  one-all P x false h = tt
-
   all-sides : All (Sides p) (triangles s p)
   all-sides =
       all-gather _ _ (sensors s) (λ a. all-gather _ _ (sensors s) (λ b. all-gather _ _ (sensors s) (λ c.
-      one-all (Sides p) (triangle a b c) (solid p a b c) (sides p a b c))))
+      all-if (Sides p) (triangle a b c) (solid p a b c) (sides p a b c))))
 
   abbrev Joined : Sensors → Edge → Type 0
   Joined o e = joined s o (e .a) (e .b) ≡ true
 
   all-joined : All (Joined q) (edges s q)
-  all-joined = all-gather _ _ (sensors s) (λ a. all-gather _ _ (sensors s) (λ b. one-all (Joined q) (edge a b) (joined s q a b) (λ e. e)))
+  all-joined = all-gather _ _ (sensors s) (λ a. all-gather _ _ (sensors s) (λ b. all-if (Joined q) (edge a b) (joined s q a b) (λ e. e)))
 
   -- what holds of every edge of p holds of the edges of q that are such
   carried : (P : Edge → Type 0) → All P (edges s p) → All (λ e. Joined p e → P e) (edges s q)

@@ -21,21 +21,31 @@ use Rattle.homology.specs.Theorems.{PutsReduce}
 use Rattle.homology.proofs.Lows.{due-to}
 use Rattle.homology.proofs.Additions.{turn, added-other, added-zero}
 
+-- by cases on where a place lies
+none-ways : (c x y a old : ℕ) → cond (eqb y c && (leb 1 x && (leb x 0 && not (eqb a 0)))) a old ≡ old
+none-ways c x y a old = grind (arith, tells)
+
+skip-ways : (r c x y a old : ℕ) → (x ≡ suc r → y ≡ c → a ≡ 0)
+    → cond (eqb y c && (leb 1 x && (leb x r && not (eqb a 0)))) a old ≡ cond (eqb y c && (leb 1 x && (leb x (suc r) && not (eqb a 0)))) a old
+skip-ways r c x y a old z = grind (arith, tells)
+
+put-ways : (r c x y a b old : ℕ) → (x ≡ suc r → y ≡ c → (b ≡ a) × (a ≡ 0 → ⊥))
+    → cond (eqb x (suc r) && eqb y c) b (cond (eqb y c && (leb 1 x && (leb x r && not (eqb a 0)))) a old) ≡ cond (eqb y c && (leb 1 x && (leb x (suc r) && not (eqb a 0)))) a old
+put-ways r c x y a b old z = grind (arith, tells)
+
+first-ways : (R x y a : ℕ) → 0 ≡ cond (inside R 0 x y) a 0
+first-ways R x y a = grind (arith, tells)
+
+next-ways : (R n x y a : ℕ) → cond (eqb y (suc n) && (leb 1 x && (leb x R && not (eqb a 0)))) a (cond (inside R n x y) a 0) ≡ cond (inside R (suc n) x y) a 0
+next-ways R n x y a = grind (arith, tells)
+
+inside-ways : (R C x y a : ℕ) → (inside R C x y ≡ false → a ≡ 0) → cond (inside R C x y) a 0 ≡ a
+inside-ways R C x y a z = grind (arith, tells)
+
 -- Loading: the puts of a column leave it as it is to be in the rows done, those of the columns so far in each of them.
 module _ (A : Entries) where
   abbrev column-done : ℕ → ℕ → Entries → Entries
   column-done r c M x y = cond (eqb y c && (leb 1 x && (leb x r && not (eqb (A x y) 0)))) (A x y) (M x y)
-
-  none-ways : (c x y a old : ℕ) → cond (eqb y c && (leb 1 x && (leb x 0 && not (eqb a 0)))) a old ≡ old
-  none-ways c x y a old = grind (arith, tells)
-
-  skip-ways : (r c x y a old : ℕ) → (x ≡ suc r → y ≡ c → a ≡ 0)
-      → cond (eqb y c && (leb 1 x && (leb x r && not (eqb a 0)))) a old ≡ cond (eqb y c && (leb 1 x && (leb x (suc r) && not (eqb a 0)))) a old
-  skip-ways r c x y a old z = grind (arith, tells)
-
-  put-ways : (r c x y a b old : ℕ) → (x ≡ suc r → y ≡ c → (b ≡ a) × (a ≡ 0 → ⊥))
-      → cond (eqb x (suc r) && eqb y c) b (cond (eqb y c && (leb 1 x && (leb x r && not (eqb a 0)))) a old) ≡ cond (eqb y c && (leb 1 x && (leb x (suc r) && not (eqb a 0)))) a old
-  put-ways r c x y a b old z = grind (arith, tells)
 
   played-column : (m : Matrix) (r c : ℕ) → played m (column-puts r A c) ≡ over m (column-done r c (m .at))
   played-column m zero c = same-entries m _ _ (λ x y. sym (none-ways c x y (A x y) (m .at x y)))
@@ -54,20 +64,11 @@ module _ (A : Entries) where
   abbrev columns-done : ℕ → ℕ → Entries
   columns-done R n x y = cond (inside R n x y) (A x y) 0
 
-  first-ways : (R x y a : ℕ) → 0 ≡ cond (inside R 0 x y) a 0
-  first-ways R x y a = grind (arith, tells)
-
-  next-ways : (R n x y a : ℕ) → cond (eqb y (suc n) && (leb 1 x && (leb x R && not (eqb a 0)))) a (cond (inside R n x y) a 0) ≡ cond (inside R (suc n) x y) a 0
-  next-ways R n x y a = grind (arith, tells)
-
   played-loading : (R C n : ℕ) → played (blank R C) (loading R A n) ≡ over (blank R C) (columns-done R n)
   played-loading R C zero = same-entries (blank R C) _ _ (λ x y. first-ways R x y (A x y))
   played-loading R C (suc n) =
       played-++ (blank R C) (loading R A n) (column-puts R A (suc n)) ∙ ap (λ k. played k (column-puts R A (suc n))) (played-loading R C n)
       ∙ played-column (over (blank R C) (columns-done R n)) R (suc n) ∙ same-entries (blank R C) _ _ (λ x y. next-ways R n x y (A x y))
-
-  inside-ways : (R C x y a : ℕ) → (inside R C x y ≡ false → a ≡ 0) → cond (inside R C x y) a 0 ≡ a
-  inside-ways R C x y a z = grind (arith, tells)
 
   pub loading-loads : (R C : ℕ) → Outside (over (blank R C) A) → played (blank R C) (loading R A C) ≡ over (blank R C) A
   loading-loads R C out = played-loading R C C ∙ same-entries (blank R C) _ _ (λ x y. inside-ways R C x y (A x y) (out x y))

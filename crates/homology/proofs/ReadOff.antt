@@ -188,21 +188,21 @@ module _ (F : Arithmetic) (f : FieldLaws F) (S : System) (coded : Coded F (start
 
     -- so they are on the columns of the system and on its target
     abbrev w : ℕ → Element F
-    w = weights F f S coded Y (value-code E)
+    w = weights F f S Y (value-code E)
 
     on-start : ((t : ℕ) → t < T → dot K laws (suc E) w (D t) ≡ K .zero) × (dot K laws (suc E) w (D T) ≡ K .one)
     on-start =
         dot-through K laws (suc E) (suc T) (alive F f S coded N inv ended) (lows F f S coded N inv ended) R (echelon F f S coded N inv ended) D (unitriangular F f S coded N inv ended) T w (omega arith)
-        (λ t l. by-code (dot-codes F f S coded Y (value-code E) (R t) (λ r. N r (suc t)) refl (reduced-entry F f S coded N inv ended t) ∙ on-reduced (suc t) (omega arith) (omega arith)))
-        (by-code (dot-codes F f S coded Y (value-code E) (R T) (λ r. N r (T + 1)) refl (λ r l m. reduced-entry F f S coded N inv ended T r l m ∙ ap (N r) (sym one-more)) ∙ on-last))
+        (λ t l. by-code (dot-codes F f S Y (value-code E) (R t) (λ r. N r (suc t)) refl (reduced-entry F f S coded N inv ended t) ∙ on-reduced (suc t) (omega arith) (omega arith)))
+        (by-code (dot-codes F f S Y (value-code E) (R T) (λ r. N r (T + 1)) refl (λ r l m. reduced-entry F f S coded N inv ended T r l m ∙ ap (N r) (sym one-more)) ∙ on-last))
 
     on-column : (t : ℕ) → 1 ≤ t → t ≤ T → total F E (λ r. F .product (Y r) (S .matrix r t)) ≡ 0
     on-column zero l m = absurd (omega arith)
     on-column (suc t) l m =
-        sym (dot-codes F f S coded Y (value-code E) (D t) (λ r. S .matrix r (suc t)) refl (λ r o p. column-entry F f S coded t r (omega arith) o p)) ∙ ap (λ z. z .0) (on-start .0 t (omega arith))
+        sym (dot-codes F f S Y (value-code E) (D t) (λ r. S .matrix r (suc t)) refl (λ r o p. column-entry F f S coded t r (omega arith) o p)) ∙ ap (λ z. z .0) (on-start .0 t (omega arith))
 
     on-target : total F E (λ r. F .product (Y r) (S .target r)) ≡ 1
-    on-target = sym (dot-codes F f S coded Y (value-code E) (D T) (S .target) refl (column-target F f S coded)) ∙ ap (λ z. z .0) (on-start .1)
+    on-target = sym (dot-codes F f S Y (value-code E) (D T) (S .target) refl (column-target F f S coded)) ∙ ap (λ z. z .0) (on-start .1)
 
     spare-value : (e : ℕ) → 1 ≤ e → e ≤ E → (Capped F S e → ⊥) → ¬ (e ≡ top) → Y e ≡ 0
     spare-value zero l m h n = absurd (omega arith)

@@ -18,7 +18,7 @@ use Rattle.homology.specs.Reduction.{low, due}
 use Rattle.homology.proofs.Sums.{sum-below}
 use Rattle.homology.proofs.Spans.{combine, combine-last, combine-front}
 use Rattle.homology.proofs.Equations.{one-times, zero-plus, minus-same, minus-left}
-use Rattle.homology.proofs.Columns.{Coded, at, inside, inside-parts, cut-in, cut-out, column, column-of, column-out, combine-out, dependent-up, capped-up, capped-down}
+use Rattle.homology.proofs.Columns.{Coded, at, in-rows, row-bounds, cut-in, cut-out, column, column-of, column-out, combine-out, dependent-up, capped-up, capped-down}
 use Rattle.homology.proofs.Echelon.{Echelon, Unitriangular, echelon-fewer, dependent-dead, last-row-low, low-last-row}
 use Rattle.homology.proofs.Lows.{low-most, low-nonzero, low-above, none-apart, none-quiet}
 use Rattle.homology.proofs.Additions.{Invariant, starts, base}
@@ -41,7 +41,7 @@ module _ (F : Arithmetic) (f : FieldLaws F) (S : System) (coded : Coded F (start
 
   -- the columns of N, their lows, and which of them have one; columns from 0
   abbrev pub reduced-column : ℕ → ℕ → Element F
-  reduced-column j = column-of F f S coded (λ r. N r (suc j)) (λ r. inv .codes r (suc j))
+  reduced-column j = column-of F f S (λ r. N r (suc j)) (λ r. inv .codes r (suc j))
 
   abbrev pub lows : ℕ → ℕ
   lows j = low E N (suc j)
@@ -59,12 +59,12 @@ module _ (F : Arithmetic) (f : FieldLaws F) (S : System) (coded : Coded F (start
   low-alive j l = not-from-false _ (ne-eqb (lows j) 0 (omega arith))
 
   pub reduced-entry : (j r : ℕ) → 1 ≤ r → r ≤ E → reduced-column j r .0 ≡ N r (suc j)
-  reduced-entry j r l m = ap (λ z. z .0) (cut-in F f S coded (N r (suc j), inv .codes r (suc j)) r l m)
+  reduced-entry j r l m = ap (λ z. z .0) (cut-in F f S (N r (suc j), inv .codes r (suc j)) r l m)
 
   above-zero : (j r : ℕ) → lows j < r → reduced-column j r ≡ K .zero
-  above-zero j r l = elim (cases-bool (inside F f S coded r)) [
-    | inl i ↦ let p = inside-parts F f S coded r i in by-code (reduced-entry j r (p .0) (p .1) ∙ low-above N E (suc j) r l (p .1))
-    | inr o ↦ cut-out F f S coded (N r (suc j), inv .codes r (suc j)) r o
+  above-zero j r l = elim (cases-bool (in-rows S r)) [
+    | inl i ↦ let p = row-bounds S r i in by-code (reduced-entry j r (p .0) (p .1) ∙ low-above N E (suc j) r l (p .1))
+    | inr o ↦ cut-out F f S (N r (suc j), inv .codes r (suc j)) r o
   ]
 
   -- where none is due, no two lows are equal, that of the last column included
@@ -128,15 +128,15 @@ module _ (F : Arithmetic) (f : FieldLaws F) (S : System) (coded : Coded F (start
       ]
 
   pub recorded : (j : ℕ) → j < suc T → (r : ℕ) → combine K D j (recorded-weights j) r ≡ K .add (reduced-column j r) (K .neg (D j r))
-  recorded j l r = elim (cases-bool (inside F f S coded r)) [
+  recorded j l r = elim (cases-bool (in-rows S r)) [
     | inr o ↦
         combine-out F f S coded j (recorded-weights j) r o
-        ∙ sym (minus-same K laws (reduced-column j r) (D j r) (cut-out F f S coded (N r (suc j), inv .codes r (suc j)) r o ∙ sym (column-out F f S coded j r o)))
+        ∙ sym (minus-same K laws (reduced-column j r) (D j r) (cut-out F f S (N r (suc j), inv .codes r (suc j)) r o ∙ sym (column-out F f S coded j r o)))
     | inl i ↦
-        let p = inside-parts F f S coded r i in
-        sum-below K laws j _ _ (λ t _. ap (K .mul (recorded-weights j t)) (cut-in F f S coded (at F (starting S) coded r (suc t)) r (p .0) (p .1)))
+        let p = row-bounds S r i in
+        sum-below K laws j _ _ (λ t _. ap (K .mul (recorded-weights j t)) (cut-in F f S (at F (starting S) coded r (suc t)) r (p .0) (p .1)))
         ∙ recorded-inside j l r (p .0) (p .1)
-        ∙ ap₂ (λ u v. K .add u (K .neg v)) (sym (cut-in F f S coded (N r (suc j), inv .codes r (suc j)) r (p .0) (p .1))) (sym (cut-in F f S coded (at F (starting S) coded r (suc j)) r (p .0) (p .1)))
+        ∙ ap₂ (λ u v. K .add u (K .neg v)) (sym (cut-in F f S (N r (suc j), inv .codes r (suc j)) r (p .0) (p .1))) (sym (cut-in F f S (at F (starting S) coded r (suc j)) r (p .0) (p .1)))
   ]
 
   pub unitriangular : Unitriangular K (suc T) D reduced-column

@@ -28,13 +28,13 @@ use Rattle.homology.proofs.Additions.{turn, added-codes}
 -- What holds of each put of loading and reducing: P, if it holds of an entry of the starting matrix put into its own place, and of an
 -- entry of a sum, for matrices of which I holds.
 module _ (P : Put → Type 0) where
-  one-all : (b : Bool) (p : Put) → P p → All P (cond b [] (p ∷ []))
-  one-all true p h = tt
-  one-all false p h = (h, tt)
+  all-unless : (b : Bool) (p : Put) → P p → All P (cond b [] (p ∷ []))
+  all-unless true p h = tt
+  all-unless false p h = (h, tt)
 
   column-all : (n : ℕ) (A : Entries) (c : ℕ) → ((r : ℕ) → 1 ≤ r → r ≤ n → P (put-at r c (A r c))) → All P (column-puts n A c)
   column-all zero A c h = tt
-  column-all (suc n) A c h = all-append P (column-puts n A c) _ (column-all n A c (λ r l m. h r l (omega arith))) (one-all (eqb (A (suc n) c) 0) _ (h (suc n) (omega arith) (omega arith)))
+  column-all (suc n) A c h = all-append P (column-puts n A c) _ (column-all n A c (λ r l m. h r l (omega arith))) (all-unless (eqb (A (suc n) c) 0) _ (h (suc n) (omega arith) (omega arith)))
 
   loading-all : (R : ℕ) (A : Entries) (n : ℕ) → ((r c : ℕ) → 1 ≤ r → r ≤ R → 1 ≤ c → c ≤ n → P (put-at r c (A r c))) → All P (loading R A n)
   loading-all R A zero h = tt
@@ -48,7 +48,7 @@ module _ (P : Put → Type 0) where
   addition-all : (F : Arithmetic) (n : ℕ) (M : Entries) (a : Addition) → ((r : ℕ) → 1 ≤ r → r ≤ n → P (sum-put F M a r)) → All P (addition-puts F n M a)
   addition-all F zero M a h = tt
   addition-all F (suc n) M a h =
-      all-append P (addition-puts F n M a) _ (addition-all F n M a (λ r l m. h r l (omega arith))) (one-all (eqb (M (suc n) (a .from)) 0) _ (h (suc n) (omega arith) (omega arith)))
+      all-append P (addition-puts F n M a) _ (addition-all F n M a (λ r l m. h r l (omega arith))) (all-unless (eqb (M (suc n) (a .from)) 0) _ (h (suc n) (omega arith) (omega arith)))
 
   module _ (F : Arithmetic) (E T : ℕ) (I : Entries → Type 0) (keeps : (M : Entries) (a : Addition) → I M → I (added F M a))
       (puts : (M : Entries) (a : Addition) (r : ℕ) → I M → 1 ≤ r → r ≤ E + T → 1 ≤ a .to → a .to ≤ T + 1 → P (sum-put F M a r)) where

@@ -16,7 +16,7 @@ use Rattle.homology.proofs.Sums.{sum-only}
 use Rattle.homology.proofs.Spans.{combine, combine-sub, combine-none, unique, same-from, dot, dot-same, dot-add, dot-sub, dot-spanned}
 use Rattle.homology.proofs.Equations.{zero-times, times-zero, zero-plus, plus-zero, minus-same, minus-across, minus-factor}
 use Rattle.homology.proofs.Totals.{total-only, lifted}
-use Rattle.homology.proofs.Columns.{Coded, starting-codes, inside, inside-parts, cut, cut-in, cut-out, column, column-of, column-entry, column-target, column-out, combine-out, combine-codes, weights, dot-codes, dependent-down, capped-up, capped-down}
+use Rattle.homology.proofs.Columns.{Coded, starting-codes, in-rows, row-bounds, cut, cut-in, cut-out, column, column-of, column-entry, column-target, column-out, combine-out, combine-codes, weights, dot-codes, dependent-down, capped-up, capped-down}
 
 module _ (F : Arithmetic) (f : FieldLaws F) (S : System) (coded : Coded F (starting S)) where
   abbrev K : Operations (Element F)
@@ -36,9 +36,9 @@ module _ (F : Arithmetic) (f : FieldLaws F) (S : System) (coded : Coded F (start
 
   -- Both solutions combine the columns to the target, and both spare the dependent columns.
   solved : (x : Vector) (g : GivenSolution F S x) (r : ℕ) → combine K D T (lifted F x (g .solves .codes)) r ≡ D T r
-  solved x g r = elim (cases-bool (inside F f S coded r)) [
+  solved x g r = elim (cases-bool (in-rows S r)) [
     | inl i ↦
-        let p = inside-parts F f S coded r i in
+        let p = row-bounds S r i in
         by-code (combine-codes F f S coded T (omega arith) x (g .solves .codes) r (p .0) (p .1) ∙ g .solves .reaches r (p .0) (p .1) ∙ sym (column-target F f S coded r (p .0) (p .1)))
     | inr o ↦ combine-out F f S coded T (lifted F x (g .solves .codes)) r o ∙ sym (column-out F f S coded T r o)
   ]
@@ -54,27 +54,27 @@ module _ (F : Arithmetic) (f : FieldLaws F) (S : System) (coded : Coded F (start
 
   -- A remainder as a column: the target is it and a combination of the columns.
   split : (v : Vector) (h : Remainder F S v) (r : ℕ)
-      → D T r ≡ K .add (column-of F f S coded v (h .codes) r) (combine K D T (lifted F (h .weights) (h .weight-codes)) r)
+      → D T r ≡ K .add (column-of F f S v (h .codes) r) (combine K D T (lifted F (h .weights) (h .weight-codes)) r)
   split v h r =
       let c = lifted F (h .weights) (h .weight-codes) in
-      elim (cases-bool (inside F f S coded r)) [
+      elim (cases-bool (in-rows S r)) [
         | inl i ↦
-            let p = inside-parts F f S coded r i in
+            let p = row-bounds S r i in
             by-code (column-target F f S coded r (p .0) (p .1) ∙ h .differs r (p .0) (p .1)
-            ∙ ap₂ (F .sum) (ap (λ z. z .0) (sym (cut-in F f S coded (v r, h .codes r) r (p .0) (p .1)))) (sym (combine-codes F f S coded T (omega arith) (h .weights) (h .weight-codes) r (p .0) (p .1))))
+            ∙ ap₂ (F .sum) (ap (λ z. z .0) (sym (cut-in F f S (v r, h .codes r) r (p .0) (p .1)))) (sym (combine-codes F f S coded T (omega arith) (h .weights) (h .weight-codes) r (p .0) (p .1))))
         | inr o ↦
             column-out F f S coded T r o
-            ∙ sym (zero-plus K laws (column-of F f S coded v (h .codes) r) (combine K D T c r) (cut-out F f S coded (v r, h .codes r) r o) ∙ combine-out F f S coded T c r o)
+            ∙ sym (zero-plus K laws (column-of F f S v (h .codes) r) (combine K D T c r) (cut-out F f S (v r, h .codes r) r o) ∙ combine-out F f S coded T c r o)
       ]
 
   -- Two remainders differ by a combination of the columns. Its greatest row that is not 0 would be capped, and there both are 0:
   -- so they agree, the greatest row first.
   module _ (v w : Vector) (g : Remainder F S v) (h : Remainder F S w) where
     abbrev V : ℕ → Element F
-    V = column-of F f S coded v (g .codes)
+    V = column-of F f S v (g .codes)
 
     abbrev W : ℕ → Element F
-    W = column-of F f S coded w (h .codes)
+    W = column-of F f S w (h .codes)
 
     abbrev difference : ℕ → Element F
     difference t = K .add (lifted F (h .weights) (h .weight-codes) t) (K .neg (lifted F (g .weights) (g .weight-codes) t))
@@ -86,10 +86,10 @@ module _ (F : Arithmetic) (f : FieldLaws F) (S : System) (coded : Coded F (start
         combine-sub K laws D T ch cg r ∙ minus-across K laws (D T r) (V r) (combine K D T cg r) (W r) (combine K D T ch r) (split v g r) (split w h r)
 
     same-column : (r : ℕ) → (v r ≡ w r) ⊎ (E < r) → V r ≡ W r
-    same-column r (inl e) = let q : (v r, g .codes r) ≡ (w r, h .codes r) = by-code e in ap (λ z. cut F f S coded z r) q
-    same-column r (inr b) = elim (cases-bool (inside F f S coded r)) [
-      | inl t ↦ absurd (omega (arith, inside-parts F f S coded r t .1))
-      | inr o ↦ cut-out F f S coded (v r, g .codes r) r o ∙ sym (cut-out F f S coded (w r, h .codes r) r o)
+    same-column r (inl e) = let q : (v r, g .codes r) ≡ (w r, h .codes r) = by-code e in ap (λ z. cut F f S z r) q
+    same-column r (inr b) = elim (cases-bool (in-rows S r)) [
+      | inl t ↦ absurd (omega (arith, row-bounds S r t .1))
+      | inr o ↦ cut-out F f S (v r, g .codes r) r o ∙ sym (cut-out F f S (w r, h .codes r) r o)
     ]
 
     capped-where-apart : (r : ℕ) → 1 ≤ r → r ≤ E → ¬ (v r ≡ w r) → ((i : ℕ) → r < i → (v i ≡ w i) ⊎ (E < i)) → Capped F S r
@@ -98,7 +98,7 @@ module _ (F : Arithmetic) (f : FieldLaws F) (S : System) (coded : Coded F (start
       spanned = (difference, λ i. refl);
       here = λ z.
           let s : V r ≡ W r = same-from K laws (V r) (W r) (sym (differ r) ∙ z) in
-          n (ap (λ z. z .0) (sym (cut-in F f S coded (v r, g .codes r) r l m) ∙ s ∙ cut-in F f S coded (w r, h .codes r) r l m));
+          n (ap (λ z. z .0) (sym (cut-in F f S (v r, g .codes r) r l m) ∙ s ∙ cut-in F f S (w r, h .codes r) r l m));
       beyond = λ i u. differ i ∙ minus-same K laws (V i) (W i) (same-column i (above i u));
     })
 
@@ -126,16 +126,16 @@ module _ (F : Arithmetic) (f : FieldLaws F) (S : System) (coded : Coded F (start
   -- A given separator is 0 on the columns and 1 on the target, so 1 on the remainder; there only the greatest row counts.
   module _ (y : Vector) (g : GivenSeparator F S y) where
     abbrev Y : ℕ → Element F
-    Y = weights F f S coded y (g .separates .codes)
+    Y = weights F f S y (g .separates .codes)
 
     on-column : (t : ℕ) → t < T → dot K laws (suc E) Y (D t) ≡ K .zero
-    on-column t l = by-code (dot-codes F f S coded y (g .separates .codes) (D t) (λ r. S .matrix r (suc t)) refl (λ r o p. column-entry F f S coded t r l o p) ∙ g .separates .closed (suc t) (omega arith) (omega arith))
+    on-column t l = by-code (dot-codes F f S y (g .separates .codes) (D t) (λ r. S .matrix r (suc t)) refl (λ r o p. column-entry F f S coded t r l o p) ∙ g .separates .closed (suc t) (omega arith) (omega arith))
 
     on-target : dot K laws (suc E) Y (D T) ≡ K .one
-    on-target = by-code (dot-codes F f S coded y (g .separates .codes) (D T) (S .target) refl (column-target F f S coded) ∙ g .separates .one)
+    on-target = by-code (dot-codes F f S y (g .separates .codes) (D T) (S .target) refl (column-target F f S coded) ∙ g .separates .one)
 
     abbrev rest : ℕ → Element F
-    rest = column-of F f S coded (g .rest) (g .remainder .codes)
+    rest = column-of F f S (g .rest) (g .remainder .codes)
 
     on-rest : dot K laws (suc E) Y rest ≡ K .one
     on-rest =
@@ -153,7 +153,7 @@ module _ (F : Arithmetic) (f : FieldLaws F) (S : System) (coded : Coded F (start
     at-top : F .product (y (g .top)) (g .rest (g .top)) ≡ 1
     at-top =
         sym (total-only F f E (g .top) (λ r. F .product (y r) (g .rest r)) (f .product-code _ _) (g .greatest .from) (g .greatest .to) other-rows)
-        ∙ sym (dot-codes F f S coded y (g .separates .codes) rest (g .rest) refl (λ r l m. ap (λ z. z .0) (cut-in F f S coded (g .rest r, g .remainder .codes r) r l m)))
+        ∙ sym (dot-codes F f S y (g .separates .codes) rest (g .rest) refl (λ r l m. ap (λ z. z .0) (cut-in F f S (g .rest r, g .remainder .codes r) r l m)))
         ∙ ap (λ z. z .0) on-rest
 
   -- The difference of two given separators is 0 on every column, in the greatest row of the remainder, and in the other uncapped

@@ -15,7 +15,11 @@ use Rattle.survey.specs.Lists.{gather}
 use Rattle.homology.proofs.Sums.{sum}
 use Rattle.homology.proofs.Equations.{times-zero, zero-plus}
 
--- what holds of each element of what is gathered
+-- what holds of an element that is there if a test holds, and of each element of what is gathered
+pub all-if : {X : Type 0} (P : X → Type 0) (x : X) (o : Bool) → (o ≡ true → P x) → All P (cond o (x ∷ []) [])
+all-if P x true h = (h refl, tt)
+all-if P x false h = tt
+
 all-split : {X : Type 0} (P : X → Type 0) (xs ys : List X) → All P (xs ++ ys) → All P xs × All P ys
 all-split P [] ys h = (tt, h)
 all-split P (x ∷ xs) ys h = let r = all-split P xs ys (h .1) in ((h .0, r .0), r .1)
