@@ -1,22 +1,22 @@
 -- The columns of the starting matrix: where they can be nonzero, and searches that look only there.
 use mathlib.Core.Path.{_≡_, refl, sym, ap, ap₂, subst, _∙_}
 use mathlib.Core.Bool.{Bool, true, false, true≢false, cond, _&&_, _||_}
-use mathlib.Core.Logic.{⊎-elim, _⊎_, inl, inr}
+use mathlib.Core.Logic.{⊎-elim, _⊎_}
 use mathlib.Core.List.{List, [], _∷_}
-use Prim.Native.Nat.{ℕ, zero, suc, _+_, _-_, _≤_, _<_}
+use Prim.Native.Nat.{ℕ, _+_, _-_, _≤_, _<_}
 use native.Mathlib.Omega.{arith}
 use lib.Dec.{leb, ltb, eqb}
 use lib.ListN.{length, getD}
 use Rattle.std.specs.declared.option.Option.the-variants.{Some, None}
 use Rattle.std.proofs.shelf.Lists.{getD-default}
-use Rattle.std.proofs.shelf.Tests.{cases-lt, cases-eq, cases-order, cases-bool, and-parts, or-parts, or-from, eqb-true, cond-true, cond-false}
+use Rattle.std.proofs.shelf.Tests.{cases-lt, cases-eq, cases-order, cases-bool, and-parts, or-parts, or-from, eqb-true, cond-false}
 use Rattle.std.proofs.shelf.Ways.{tells}
 use Rattle.matrix.specs.Matrix.{inside}
 use Rattle.matrix.specs.Nonzero.{First}
 use Rattle.survey.specs.declared.edge.Edge.{Edge}
 use Rattle.survey.specs.declared.edge.Triangle.{Triangle}
 use Rattle.survey.specs.Surveys.{edge, steps}
-use Rattle.complex.specs.Boundaries.{boundary-code, fence-code, has-step, listed-system, no-edge, no-triangle}
+use Rattle.complex.specs.Boundaries.{boundary-code, has-step, listed-system, no-edge, no-triangle}
 use Rattle.complex.specs.Grids.{Nearer, starting-outside}
 use Rattle.complex.specs.Orders.{ascends, edge-less, Stands}
 use Rattle.complex.specs.Systems.{System, starting}

@@ -1,14 +1,13 @@
 -- Lists with elements left out: gathered from runs, a list is a sublist of another if each run is.
-use mathlib.Core.Path.{_≡_, refl, sym, _∙_}
+use mathlib.Core.Path.{_≡_, refl, sym}
 use mathlib.Core.Bool.{Bool, true, false, true≢false, cond, _&&_}
 use mathlib.Core.List.{List, [], _∷_, _++_}
 use Prim.Native.Nat.{ℕ, _≤_}
 use native.Mathlib.Omega.{arith}
-use lib.Dec.{ltb}
 use lib.ListN.{length}
 use Rattle.std.proofs.shelf.Tests.{and-parts, and-from}
 use Rattle.survey.specs.Lists.{gather}
-use Rattle.survey.specs.Surveys.{Survey, Sensors, sensors, joined, edge, triangle}
+use Rattle.survey.specs.Surveys.{sensors, joined, edge, triangle}
 use Rattle.complex.specs.Theorems.{Sublist, none, skip, keep, Monotone}
 
 pub sublist-same : {X : Type 0} (xs : List X) → Sublist xs xs

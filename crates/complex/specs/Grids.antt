@@ -1,6 +1,6 @@
 -- Listed edges, triangles and a fence in memory as the starting matrix, and a search in one of its columns.
 use mathlib.Core.Path.{_≡_, refl, _∙_}
-use mathlib.Core.Bool.{Bool, true, false, true≢false, cond, _&&_}
+use mathlib.Core.Bool.{Bool, true, false, cond, _&&_}
 use mathlib.Core.List.{List, []}
 use Prim.Native.Nat.{ℕ, _+_, _-_, _≤_, _<_}
 use native.Mathlib.Omega.{arith}
@@ -9,7 +9,7 @@ use lib.Dec.{leb}
 use lib.ListN.{length}
 use Rattle.std.proofs.shelf.Tests.{and-parts, and-from, le-leb, leb-true, ltb-true, eqb-true, both-ways}
 use Rattle.field.specs.Arithmetic.{Arithmetic}
-use Rattle.matrix.specs.Matrix.{Matrix, inside, Outside}
+use Rattle.matrix.specs.Matrix.{Matrix, Outside}
 use Rattle.survey.specs.declared.edge.Edge.{Edge}
 use Rattle.survey.specs.declared.edge.Triangle.{Triangle}
 use Rattle.survey.specs.Surveys.{Survey, Sensors, Valid, edges, triangles}

@@ -7,7 +7,7 @@ use survey::edge::Edge;
 use survey::edge::Triangle;
 use survey::fence::next;
 ghost use mathlib.Core.Path.{_≡_};
-ghost use Prim.Native.Nat.{ℕ, _+_, _≤_};
+ghost use Prim.Native.Nat.{_+_, _≤_};
 ghost use denote.Ref.{now};
 ghost use lib.ListN.{length};
 ghost use Rattle.matrix.specs.Nonzero.{next-in};
@@ -22,6 +22,7 @@ pub(crate) struct Lists<'a> {
 }
 
 impl<'a> Lists<'a> {
+    // A row for each edge, and one for each triangle.
     pub(crate) fn rows(&self) -> u32
         requires { ⌜ Few (now self) ⌝ }
         ensures { λ r. ⌜ r ≡ matrix-of (now (self .entry)) .rows ⌝ }
@@ -29,6 +30,7 @@ impl<'a> Lists<'a> {
         (self.edges.len() + self.triangles.len()) as u32
     }
 
+    // A column for each triangle, and one for the fence.
     pub(crate) fn columns(&self) -> u32
         requires { ⌜ Few (now self) ⌝ }
         ensures { λ r. ⌜ r ≡ matrix-of (now (self .entry)) .columns ⌝ }
@@ -36,6 +38,7 @@ impl<'a> Lists<'a> {
         self.triangles.len() as u32 + 1
     }
 
+    // What a triangle's boundary or the fence has on an edge, and 1 where a triangle's column meets its own row.
     pub(crate) fn entry(&self, row: u32, column: u32) -> u16
         requires { ⌜ Few (now self) ⌝ }
         ensures { λ r. ⌜ r ≡ matrix-of (now (self .entry)) .at row column ⌝ }
@@ -84,34 +87,10 @@ impl<'a> Lists<'a> {
         if first > own {
             return None;
         }
-        let triangle = self.triangles[column as usize - 1];
-        let row = self.nearer(
-            column,
-            first,
-            Edge {
-                a: triangle.b,
-                b: triangle.c,
-            },
-            own,
-        );
-        let row = self.nearer(
-            column,
-            first,
-            Edge {
-                a: triangle.a,
-                b: triangle.c,
-            },
-            row,
-        );
-        Some(self.nearer(
-            column,
-            first,
-            Edge {
-                a: triangle.a,
-                b: triangle.b,
-            },
-            row,
-        ))
+        let Triangle { a, b, c } = self.triangles[column as usize - 1];
+        let row = self.nearer(column, first, Edge { a: b, b: c }, own);
+        let row = self.nearer(column, first, Edge { a, b: c }, row);
+        Some(self.nearer(column, first, Edge { a, b }, row))
     }
 
     // In the column of the fence only the rows of its steps can be nonzero.
@@ -131,6 +110,7 @@ impl<'a> Lists<'a> {
         if row < past { Some(row) } else { None }
     }
 
+    // The first row of the column, from a row on, whose entry is not 0, by lookups.
     pub(crate) fn next_nonzero(&self, column: u32, first: u32) -> Option<u32>
         requires { ⌜ Ordered (now self) ⌝ }
         ensures { λ r. ⌜ r ≡ next-in (matrix-of (now (self .entry))) column first ⌝ }

@@ -53,16 +53,9 @@ pub impl TotalOrder for Edge as EdgeOrder {
     ghost less = { «edge-less» };
 
     fn compare(&self, other: &Edge) -> Ordering {
-        if self.a < other.a {
-            Ordering::Less
-        } else if self.a > other.a {
-            Ordering::Greater
-        } else if self.b < other.b {
-            Ordering::Less
-        } else if self.b > other.b {
-            Ordering::Greater
-        } else {
-            Ordering::Equal
+        match self.a.cmp(&other.a) {
+            Ordering::Equal => self.b.cmp(&other.b),
+            order => order,
         }
     }
 }
@@ -71,20 +64,10 @@ pub impl TotalOrder for Triangle as TriangleOrder {
     ghost less = { «triangle-less» };
 
     fn compare(&self, other: &Triangle) -> Ordering {
-        if self.a < other.a {
-            Ordering::Less
-        } else if self.a > other.a {
-            Ordering::Greater
-        } else if self.b < other.b {
-            Ordering::Less
-        } else if self.b > other.b {
-            Ordering::Greater
-        } else if self.c < other.c {
-            Ordering::Less
-        } else if self.c > other.c {
-            Ordering::Greater
-        } else {
-            Ordering::Equal
+        match (self.a.cmp(&other.a), self.b.cmp(&other.b)) {
+            (Ordering::Equal, Ordering::Equal) => self.c.cmp(&other.c),
+            (Ordering::Equal, order) => order,
+            (order, _) => order,
         }
     }
 }

@@ -1,10 +1,10 @@
 // The rules of a fence: different sensors, each linked to the next and the last to the first.
 use crate::neighbours::Neighbours;
-ghost use mathlib.Core.Bool.{cond, false, _&&_, not};
+ghost use mathlib.Core.Bool.{false, _&&_, not};
 ghost use mathlib.Core.List.{[]};
 ghost use mathlib.Core.Path.{_≡_};
 ghost use Prim.Native.Nat.{_+_, _≤_, _<_};
-ghost use lib.Dec.{leb, ltb};
+ghost use lib.Dec.{leb};
 ghost use lib.ListN.{length, getD, take};
 ghost use Rattle.survey.specs.Lists.{after};
 ghost use Rattle.survey.specs.Surveys.{distinct, nobody, «all-linked», steps};

@@ -1,8 +1,8 @@
 // A set of sensors as a table: the place x says whether sensor x is in it.
-ghost use mathlib.Core.Bool.{cond, false, _&&_, not};
+ghost use mathlib.Core.Bool.{cond, false};
 ghost use mathlib.Core.Path.{_≡_};
 ghost use Prim.Native.Nat.{ℕ, _<_, min};
-ghost use lib.Dec.{eqb, leb};
+ghost use lib.Dec.{eqb};
 ghost use lib.ListN.{getD, length};
 ghost use Rattle.survey.specs.Sets.{«set-of», «up-to», joining, leaving, members};
 ghost use Rattle.survey.specs.Surveys.{nobody};

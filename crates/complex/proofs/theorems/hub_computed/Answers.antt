@@ -1,7 +1,5 @@
 -- The definitions compute.
-use mathlib.Core.Path.{_≡_, refl, ap, _∙_}
-use Prim.Native.Nat.{ℕ, suc}
-use Rattle.matrix.specs.declared.put.Put.{Put}
+use mathlib.Core.Path.{refl, ap, _∙_}
 use Rattle.survey.specs.Surveys.{edges, triangles, everyone}
 use Rattle.complex.specs.Boundaries.{listed-system}
 use Rattle.complex.specs.Hub.{hub, nonzeros, HubEntries}

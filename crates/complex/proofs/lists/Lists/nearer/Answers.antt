@@ -1,5 +1,5 @@
 -- What the lookup found is the one place of the edge.
-use mathlib.Core.Path.{_≡_, sym, _∙_}
+use mathlib.Core.Path.{sym, _∙_}
 use native.Mathlib.Omega.{arith}
 use Rattle.complex.specs.Grids.{matrix-of}
 use Rattle.complex.proofs.Columns.{nearer-none, nearer-come, nearer-stay}

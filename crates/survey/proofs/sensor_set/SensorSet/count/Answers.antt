@@ -1,9 +1,8 @@
 -- A member is counted when it is met.
-use mathlib.Core.Path.{_≡_, _∙_}
 use mathlib.Core.Bool.{true, false}
 use native.Mathlib.Omega.{arith}
 use Rattle.survey.specs.Sets.{set-of, members}
-use Rattle.survey.proofs.Walks.{ahead-if, ahead-one, ahead-none}
+use Rattle.survey.proofs.Walks.{ahead-if}
 use Rattle.survey.proofs.sensor_set.SensorSet.count.Needs as need
 use Rattle.survey.proofs.sensor_set.SensorSet.count.Needs.{then-member, else-member}
 
