@@ -6,7 +6,6 @@ use native.Mathlib.Omega.{arith}
 use Rattle.std.specs.declared.result.Result.{Result}
 use Rattle.std.specs.declared.result.Result.the-variants.{Ok, Err}
 use Rattle.refusal.specs.declared.Refusal.{Refusal}
-use Rattle.refusal.specs.Numbers.{number-of}
 use Rattle.refusal.specs.Outcomes.{Outcome, accepted, refused, and-then, outcome}
 use Rattle.matrix.specs.declared.put.Put.{Put}
 use Rattle.matrix.specs.Matrix.{Matrix, blank, count}

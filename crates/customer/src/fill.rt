@@ -2,8 +2,7 @@
 ghost use mathlib.Core.Path.{_≡_};
 ghost use lib.ListN.{length};
 ghost use Rattle.refusal.specs.Outcomes.{outcome, and-then};
-ghost use Rattle.matrix.specs.Matrix.{Matrix};
-ghost use Rattle.matrix.specs.Terms.{Terms, told};
+ghost use Rattle.matrix.specs.Terms.{told};
 ghost use Rattle.stores.specs.Packed.{entry-width};
 ghost use Rattle.stores.specs.Dense.{dense-terms};
 ghost use Rattle.customer.specs.Filling.{fill-outcome, fill-after, filled-count};
@@ -52,7 +51,87 @@ pub fn fill_dense(
 pub fn fill_square(codes: &mut [u16], rows: u32, columns: u32, puts: &[Put]) -> Result<u64, Refusal>
     ensures { λ r. ⌜ outcome (λ n. n) r ≡ filled-count (square-terms (length (now (codes .entry)))) rows columns (now (puts .entry)) ⌝ }
 {
-    let mut store = Square::new(codes);
-    fill(&mut store, rows, columns, puts)?;
-    Ok(store.nonzero())
+    let mut square = Square::new(codes);
+    fill(&mut square, rows, columns, puts)?;
+    Ok(square.nonzero())
+}
+
+#[cfg(test)]
+mod tests {
+    use super::fill_dense;
+    use super::fill_square;
+    use matrix::put::Put;
+    use refusal::Refusal;
+    use refusal::RefusalDebug;
+    use refusal::RefusalPartialEq;
+    use std::test::*;
+
+    // Two entries set, one of them cleared again, and a third.
+    const PUTS: [Put; 4] = [
+        Put {
+            row: 1,
+            column: 1,
+            code: 1,
+        },
+        Put {
+            row: 4,
+            column: 2,
+            code: 1,
+        },
+        Put {
+            row: 1,
+            column: 1,
+            code: 0,
+        },
+        Put {
+            row: 2,
+            column: 4,
+            code: 1,
+        },
+    ];
+
+    #[test]
+    fn dense_at_each_width() -> Result<(), Fail> {
+        for w in [1, 2, 4, 8] {
+            let mut bytes = [0xffu8; 16];
+            check_eq(fill_dense(w, &mut bytes, 4, 4, &PUTS)?, 2)?;
+            let large = [Put {
+                row: 1,
+                column: 1,
+                code: 256,
+            }];
+            check_eq(
+                fill_dense(w, &mut bytes, 1, 1, &large),
+                Err(Refusal::CodeTooLarge),
+            )?;
+        }
+        let mut bytes = [0xffu8; 16];
+        check_eq(
+            fill_dense(8, &mut bytes, 4, 5, &PUTS),
+            Err(Refusal::ShapeNotTaken),
+        )?;
+        check_eq(fill_dense(1, &mut bytes, 16, 8, &PUTS)?, 2)?;
+        check_eq(
+            fill_dense(1, &mut bytes, 3, 4, &PUTS),
+            Err(Refusal::OutsideShape),
+        )?;
+        check_eq(
+            fill_dense(3, &mut bytes, 4, 4, &PUTS),
+            Err(Refusal::EntryWidth),
+        )
+    }
+
+    #[test]
+    fn square_shapes_only() -> Result<(), Fail> {
+        let mut codes = [0xffffu16; 16];
+        check_eq(fill_square(&mut codes, 4, 4, &PUTS)?, 2)?;
+        check_eq(
+            fill_square(&mut codes, 4, 3, &PUTS),
+            Err(Refusal::ShapeNotTaken),
+        )?;
+        check_eq(
+            fill_square(&mut codes, 5, 5, &PUTS),
+            Err(Refusal::ShapeNotTaken),
+        )
+    }
 }

@@ -3,11 +3,13 @@ ghost use mathlib.Core.Path.{_≡_};
 ghost use Prim.Native.Nat.{ℕ, _+_, _-_, _*_, _<_, _≤_};
 ghost use lib.ListN.{length, getD, set};
 ghost use denote.Ref.{now as behind};
-ghost use Rattle.matrix.specs.Matrix.{Matrix, count, blank, one-if-not-zero};
+ghost use Rattle.matrix.specs.Matrix.{count, blank};
 ghost use Rattle.matrix.specs.Layout.{place, laid-outside};
-ghost use Rattle.matrix.specs.Terms.{Terms, itself};
+ghost use Rattle.matrix.specs.Terms.{itself};
 ghost use Rattle.customer.specs.Squares.{square, square-terms};
 use matrix::grid::Grid;
+use matrix::layout::not_zero;
+use matrix::layout::place_of;
 use matrix::store::Store;
 use refusal::Refusal;
 
@@ -72,19 +74,6 @@ impl<'a> Square<'a> {
             memory: Memory { codes },
         }
     }
-}
-
-fn place_of(side: u32, row: u32, column: u32) -> usize
-    requires { ⌜ (1 ≤ row) × (1 ≤ column) × (row ≤ side) ⌝ }
-    ensures { λ r. ⌜ r ≡ place side row column ⌝ }
-{
-    (column - 1) as usize * side as usize + (row - 1) as usize
-}
-
-fn not_zero(code: u16) -> u64
-    ensures { λ r. ⌜ r ≡ one-if-not-zero code ⌝ }
-{
-    if code == 0 { 0 } else { 1 }
 }
 
 pub impl<'a> Grid for Square<'a> as SquareGrid {

@@ -1,15 +1,14 @@
 -- How a put changes the number of nonzero entries.
-use mathlib.Core.Path.{_≡_, refl, sym, ap, _∙_, fun-ext}
+use mathlib.Core.Path.{_≡_, refl, ap, fun-ext}
 use mathlib.Core.Bool.{Bool, true, false, cond, _&&_}
-use mathlib.Core.Logic.{_⊎_, inl, inr, ⊎-elim}
+use mathlib.Core.Logic.{_⊎_, ⊎-elim}
 use Prim.Native.Nat.{ℕ, zero, suc, _+_, _*_, _≤_, _<_}
 use native.Mathlib.Omega.{arith}
-use native.Mathlib.Nat.{mul-suc, add-zero, zero-add, mul-zero}
-use lib.Dec.{eqb, leb}
+use native.Mathlib.Nat.{mul-suc}
+use lib.Dec.{eqb}
 use Rattle.std.proofs.shelf.Tests.{eq-eqb, ne-eqb, cases-eq, cond-true, cond-false, and-parts, leb-true}
 use Rattle.std.proofs.shelf.Ways.{tells}
-use Rattle.matrix.specs.declared.put.Put.{Put}
-use Rattle.matrix.specs.Matrix.{Matrix, within, blank, one-if-not-zero, tally, tally-2, count, put-at, put-into}
+use Rattle.matrix.specs.Matrix.{Matrix, blank, one-if-not-zero, tally, tally-2, count}
 use Rattle.matrix.specs.Theorems.{PutCounts}
 
 pub tally-like : (f h : ℕ → ℕ) (n : ℕ) → ((r : ℕ) → f r ≡ h r) → tally f n ≡ tally h n
@@ -105,10 +104,6 @@ tally-2-le f n (suc k) = omega (arith, tally-2-le f n k, tally-le (λ i. f i (su
 
 pub count-le : (m : Matrix) → count m ≤ m .rows * m .columns
 count-le m = tally-2-le (m .at) (m .rows) (m .columns)
-
--- a place that is zero leaves room
-pub count-lt : (m : Matrix) (i j : ℕ) → within m i j ≡ true → m .at i j ≡ 0 → count m < m .rows * m .columns
-count-lt m i j e z = omega (arith, count-put m (put-at i j 1) e, count-le (put-into m (put-at i j 1)), ap one-if-not-zero z)
 
 tally-none : (f : ℕ → ℕ) (n : ℕ) → ((r : ℕ) → f r ≡ 0) → tally f n ≡ 0
 unfolding tally

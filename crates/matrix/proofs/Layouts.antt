@@ -1,6 +1,6 @@
 -- Entries column by column: a place that changes is one entry of the matrix that changes.
-use mathlib.Core.Path.{_≡_, refl, sym, ap, _∙_}
-use mathlib.Core.Bool.{Bool, true, false, cond, _&&_}
+use mathlib.Core.Path.{_≡_, sym, ap, _∙_}
+use mathlib.Core.Bool.{true, false, cond, _&&_}
 use mathlib.Core.Logic.{_⊎_, ⊎-elim}
 use Prim.Native.Nat.{ℕ, _+_, _-_, _*_, _/_, _%_, _≤_, _<_}
 use native.Mathlib.Omega.{arith}
@@ -8,9 +8,8 @@ use native.Mathlib.Nat.{mul-comm}
 use lib.Dec.{eqb, leb}
 use lib.Arith.{digits-lt, digits-div, digits-mod}
 use Rattle.std.proofs.shelf.Tests.{eq-eqb, ne-eqb, cases-bool, cases-eq, cond-true, cond-false, and-parts, leb-true, eqb-true, and-from, le-leb}
-use Rattle.std.proofs.shelf.Ways.{tells}
 use Rattle.refusal.specs.Outcomes.{accepted}
-use Rattle.matrix.specs.Matrix.{Matrix, inside, blank, count, one-if-not-zero, put-at, put-into}
+use Rattle.matrix.specs.Matrix.{inside, blank, count, one-if-not-zero, put-at, put-into}
 use Rattle.matrix.specs.Layout.{place, laid}
 use Rattle.matrix.specs.Terms.{Terms, limit-of, put-outcome, put-after}
 use Rattle.matrix.proofs.Counts.{count-put}
@@ -56,35 +55,35 @@ place-apart n k i j r c h g e =
 same-place : (n k i j r c : ℕ) → In n k i j → In n k r c → eqb (place n r c) (place n i j) ≡ (eqb r i && eqb c j)
 same-place n k i j r c h g = ⊎-elim
     (λ (e : place n r c ≡ place n i j).
-        let p = place-apart n k i j r c h g e in
-        eq-eqb _ _ e ∙ sym (and-from (eqb r i) (eqb c j) (eq-eqb r i (p .0)) (eq-eqb c j (p .1))))
+    let p = place-apart n k i j r c h g e in
+    eq-eqb _ _ e ∙ sym (and-from (eqb r i) (eqb c j) (eq-eqb r i (p .0)) (eq-eqb c j (p .1))))
     (λ (d : place n r c ≡ place n i j → ⊥). ⊎-elim
-        (λ (y : (eqb r i && eqb c j) ≡ true).
-            let ps = and-parts (eqb r i) (eqb c j) y in
-            absurd (d (ap (λ x. place n x c) (eqb-true r i (ps .0)) ∙ ap (place n i) (eqb-true c j (ps .1)))))
-        (λ (z : (eqb r i && eqb c j) ≡ false). ne-eqb _ _ d ∙ sym z)
-        (cases-bool (eqb r i && eqb c j)))
+    (λ (y : (eqb r i && eqb c j) ≡ true).
+    let ps = and-parts (eqb r i) (eqb c j) y in
+    absurd (d (ap (λ x. place n x c) (eqb-true r i (ps .0)) ∙ ap (place n i) (eqb-true c j (ps .1)))))
+    (λ (z : (eqb r i && eqb c j) ≡ false). ne-eqb _ _ d ∙ sym z)
+    (cases-bool (eqb r i && eqb c j)))
     (cases-eq (place n r c) (place n i j))
 
 elsewhere : (n k i j r c : ℕ) → In n k i j → inside n k r c ≡ false → (eqb r i && eqb c j) ≡ false
 elsewhere n k i j r c h no′ = ⊎-elim
     (λ (y : (eqb r i && eqb c j) ≡ true).
-        let ps = and-parts (eqb r i) (eqb c j) y in
-        let hit : inside n k r c ≡ true = ap (λ x. inside n k x c) (eqb-true r i (ps .0)) ∙ ap (inside n k i) (eqb-true c j (ps .1)) ∙ in-is n k i j h in
-        let z : _≡_ {A = ℕ} 0 1 = cc in absurd (omega arith))
+    let ps = and-parts (eqb r i) (eqb c j) y in
+    let hit : inside n k r c ≡ true = ap (λ x. inside n k x c) (eqb-true r i (ps .0)) ∙ ap (inside n k i) (eqb-true c j (ps .1)) ∙ in-is n k i j h in
+    let z : _≡_ {A = ℕ} 0 1 = cc in absurd (omega arith))
     (λ (z : (eqb r i && eqb c j) ≡ false). z)
     (cases-bool (eqb r i && eqb c j))
 
 -- one place changed
 pub laid-put : (n k : ℕ) (f g : ℕ → ℕ) (i j v : ℕ) → In n k i j → ((q : ℕ) → q < n * k → g q ≡ cond (eqb q (place n i j)) v (f q))
-  → laid n k g ≡ put-into (laid n k f) (put-at i j v)
+    → laid n k g ≡ put-into (laid n k f) (put-at i j v)
 laid-put n k f g i j v h e = same-entries (laid n k f) _ _ (λ r c. ⊎-elim
     (λ (yes′ : inside n k r c ≡ true).
-        let there = is-in n k r c yes′ in
-        cond-true (inside n k r c) _ _ yes′ ∙ e (place n r c) (place-lt n k r c there) ∙ ap (λ b. cond b v (f (place n r c))) (same-place n k i j r c h there)
-        ∙ ap (λ x. cond (eqb r i && eqb c j) v x) (sym (cond-true (inside n k r c) _ _ yes′)))
+    let there = is-in n k r c yes′ in
+    cond-true (inside n k r c) _ _ yes′ ∙ e (place n r c) (place-lt n k r c there) ∙ ap (λ b. cond b v (f (place n r c))) (same-place n k i j r c h there)
+    ∙ ap (λ x. cond (eqb r i && eqb c j) v x) (sym (cond-true (inside n k r c) _ _ yes′)))
     (λ (no′ : inside n k r c ≡ false).
-        cond-false (inside n k r c) _ _ no′ ∙ sym (cond-false (eqb r i && eqb c j) _ _ (elsewhere n k i j r c h no′) ∙ cond-false (inside n k r c) _ _ no′))
+    cond-false (inside n k r c) _ _ no′ ∙ sym (cond-false (eqb r i && eqb c j) _ _ (elsewhere n k i j r c h no′) ∙ cond-false (inside n k r c) _ _ no′))
     (cases-bool (inside n k r c)))
 
 -- every place zero

@@ -1,8 +1,8 @@
 -- A multiple of one column added to another, row by row.
-use mathlib.Core.Path.{_≡_, refl, sym, ap, _∙_, subst, fun-ext}
-use mathlib.Core.Bool.{Bool, true, false, cond, _&&_, not}
+use mathlib.Core.Path.{_≡_, refl, sym, ap, _∙_, subst}
+use mathlib.Core.Bool.{cond, _&&_, not}
 use mathlib.Core.List.{List, [], _∷_, _++_, append-assoc, append-nil}
-use mathlib.Core.Logic.{_⊎_, inl, inr, ⊎-elim}
+use mathlib.Core.Logic.{_⊎_, ⊎-elim}
 use Prim.Native.Nat.{ℕ, zero, suc, _+_, _-_, _≤_, _<_}
 use native.Mathlib.Omega.{arith}
 use native.Mathlib.Numerals.{add-one}
@@ -14,7 +14,7 @@ use Rattle.std.proofs.shelf.Ways.{tells}
 use Rattle.refusal.specs.declared.Refusal.{Refusal}
 use Rattle.field.specs.Arithmetic.{Arithmetic}
 use Rattle.matrix.specs.declared.put.Put.{Put}
-use Rattle.matrix.specs.Matrix.{Matrix, Entries, over, within, Outside, put-at, put-into, played}
+use Rattle.matrix.specs.Matrix.{Matrix, Entries, over, Outside, put-at, put-into, played}
 use Rattle.matrix.specs.Terms.{Terms, told, left-by, put-outcome, put-after}
 use Rattle.matrix.specs.Multiples.{added-by, adding}
 use Rattle.matrix.specs.Theorems.{AddingAdds}

@@ -1,15 +1,14 @@
 -- The nonzero entries that a scan finds: the definitions by steps give the one answer that is the first, or the last.
 use mathlib.Core.Path.{_≡_, refl, sym, ap, _∙_, subst}
-use mathlib.Core.Bool.{true, false, cond}
-use mathlib.Core.Logic.{_⊎_, inl, inr, ⊎-elim}
-use Prim.Native.Nat.{ℕ, zero, suc, _+_, _-_, _≤_, _<_, min}
+use mathlib.Core.Logic.{_⊎_, ⊎-elim}
+use Prim.Native.Nat.{ℕ, zero, suc, _+_, _-_, _≤_, _<_}
 use native.Mathlib.Omega.{arith}
 use lib.Dec.{eqb}
 use Rattle.std.specs.declared.option.Option.{Option}
 use Rattle.std.specs.declared.option.Option.the-variants.{Some, None}
-use Rattle.std.proofs.shelf.Tests.{cond-true, cond-false, eq-eqb, ne-eqb, cases-eq, cases-lt, cases-order}
+use Rattle.std.proofs.shelf.Tests.{cond-true, cond-false, eq-eqb, ne-eqb, cases-eq, cases-order}
 use Rattle.std.proofs.shelf.Ways.{tells}
-use Rattle.matrix.specs.Matrix.{Matrix, within, Outside}
+use Rattle.matrix.specs.Matrix.{Matrix, Outside}
 use Rattle.matrix.specs.Nonzero.{first-nonzero, last-nonzero, next-in, last-in, First, Last}
 
 -- there is one first, and one last

@@ -1,25 +1,24 @@
 -- Puts one after another, and the room that they need.
-use mathlib.Core.Path.{_≡_, refl, sym, ap, _∙_, subst}
+use mathlib.Core.Path.{_≡_, refl, sym, ap, _∙_}
 use mathlib.Core.Bool.{Bool, true, false, cond, _&&_, not}
 use mathlib.Core.List.{List, [], _∷_, _++_}
-use mathlib.Core.Logic.{_⊎_, inl, inr, ⊎-elim}
+use mathlib.Core.Logic.{_⊎_, ⊎-elim}
 use Prim.Native.Nat.{ℕ, zero, suc, _+_, _*_, _≤_, _<_, max}
 use native.Mathlib.Omega.{arith}
 use lib.Dec.{eqb, leb, ltb}
-use Rattle.std.specs.shelf.Lists.{All}
 use Rattle.std.proofs.shelf.Elements.{all-weaker}
 use Rattle.std.specs.declared.result.Result.{Result}
 use Rattle.std.specs.declared.result.Result.the-variants.{Ok, Err}
-use Rattle.std.proofs.shelf.Tests.{cond-true, cond-false, lt-ltb, lt-leb, le-leb, cases-bool, cases-lt}
+use Rattle.std.proofs.shelf.Tests.{cond-true, cond-false, lt-ltb, lt-leb, le-leb, cases-lt}
 use Rattle.std.proofs.shelf.Ways.{tells}
 use Rattle.refusal.specs.declared.Refusal.{Refusal}
 use Rattle.refusal.specs.declared.Refusal.the-variants.{StoreFull}
 use Rattle.refusal.specs.Numbers.{number-of}
 use Rattle.refusal.specs.Outcomes.{Outcome, accepted, refused, and-then}
 use Rattle.matrix.specs.declared.put.Put.{Put}
-use Rattle.matrix.specs.Matrix.{Matrix, within, inside, count, one-if-not-zero, put-into, played, highest}
-use Rattle.matrix.specs.Terms.{Terms, limit-of, overfull, told, left-by, put-outcome, put-after, puts-outcome, puts-after}
-use Rattle.matrix.specs.Theorems.{PutCounts, HighestSplits, Fits, HighestTells, FirstPastLimit, AcceptedPlayed}
+use Rattle.matrix.specs.Matrix.{Matrix, within, count, one-if-not-zero, put-into, played, highest}
+use Rattle.matrix.specs.Terms.{Terms, limit-of, told, left-by, put-outcome, put-after, puts-outcome, puts-after}
+use Rattle.matrix.specs.Theorems.{HighestSplits, Fits, HighestTells, FirstPastLimit, AcceptedPlayed}
 use Rattle.matrix.proofs.Counts.{count-put, count-le}
 
 pub played-++ : (m : Matrix) (ps qs : List Put) → played m (ps ++ qs) ≡ played (played m ps) qs

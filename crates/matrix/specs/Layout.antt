@@ -1,5 +1,5 @@
 -- A matrix whose entries lie in a row of places, column by column.
-use mathlib.Core.Path.{_≡_, ap}
+use mathlib.Core.Path.{ap}
 use mathlib.Core.Bool.{cond}
 use Prim.Native.Nat.{ℕ, _+_, _-_, _*_}
 use Rattle.matrix.specs.Matrix.{Matrix, inside, Outside}

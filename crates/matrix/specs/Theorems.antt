@@ -1,13 +1,13 @@
 -- What is shown of puts, counts, multiples of columns and nonzero entries.
 use mathlib.Core.Path.{_≡_}
-use mathlib.Core.List.{List, [], _∷_, _++_}
+use mathlib.Core.List.{List, _∷_, _++_}
 use mathlib.Core.Bool.{true, cond}
 use Prim.Native.Nat.{ℕ, _+_, _≤_, _<_, max}
 use lib.Dec.{leb}
 use Rattle.std.specs.shelf.Lists.{All}
 use Rattle.refusal.specs.declared.Refusal.the-variants.{StoreFull}
 use Rattle.refusal.specs.Numbers.{number-of}
-use Rattle.refusal.specs.Outcomes.{Outcome, accepted, refused}
+use Rattle.refusal.specs.Outcomes.{accepted, refused}
 use Rattle.field.specs.Arithmetic.{Arithmetic}
 use Rattle.matrix.specs.declared.put.Put.{Put}
 use Rattle.matrix.specs.Matrix.{Matrix, Outside, over, within, count, one-if-not-zero, put-into, played, highest}

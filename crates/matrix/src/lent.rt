@@ -1,8 +1,6 @@
 // A grid that is lent is a grid, and a store that is lent is a store.
-ghost use mathlib.Core.Path.{_≡_};
 ghost use denote.Ref.{now as behind, name};
-ghost use Rattle.matrix.specs.Matrix.{Matrix};
-ghost use Rattle.matrix.specs.Terms.{Terms, upon};
+ghost use Rattle.matrix.specs.Terms.{upon};
 use crate::grid::Grid;
 use crate::store::Store;
 use field::Field;

@@ -1,7 +1,7 @@
 // A store: a grid that can be edited, within its code bound, the shapes that it takes and an entry limit for each.
 ghost use mathlib.Core.Path.{_≡_};
 ghost use denote.Ref.{now};
-ghost use Rattle.matrix.specs.Matrix.{Matrix, count, put-at};
+ghost use Rattle.matrix.specs.Matrix.{count, put-at};
 ghost use Rattle.matrix.specs.Terms.{Terms, Backing, told, begin-outcome, begin-after, put-outcome, put-after, puts-outcome, puts-after};
 ghost use Rattle.matrix.specs.Multiples.{adding};
 ghost use Rattle.matrix.specs.Theorems.{PutCounts, HighestSplits, HighestTells, FirstPastLimit, AcceptedPlayed};
@@ -17,14 +17,15 @@ pub trait Store: Grid {
     // The stores that it lies upon.
     ghost backing: { Self → Backing };
 
-    // Takes a shape, with every entry 0.
+    // Takes a shape, with every entry 0. A shape that the store does not take is refused, and nothing changes.
     fn begin(&mut self, rows: u32, columns: u32) -> Result<(), Refusal>
         ensures answer { λ r. ⌜ told r ≡ begin-outcome (terms (now (self .entry))) rows columns ⌝ }
         ensures after { λ _. ⌜ Self·Grid .holds (now (self .exit)) ≡ begin-after (terms (now (self .entry))) (Self·Grid .holds (now (self .entry))) rows columns ⌝ }
         ensures terms { λ _. ⌜ terms (now (self .exit)) ≡ terms (now (self .entry)) ⌝ }
         ensures backing { λ _. ⌜ backing (now (self .exit)) ≡ backing (now (self .entry)) ⌝ };
 
-    // Sets one entry.
+    // Sets one entry. Refused in this order: a place outside the shape, a code not below the bound, and one nonzero entry
+    // more than the limit of the shape; then nothing changes. A code of 0 never wants room.
     fn put(&mut self, row: u32, column: u32, code: u16) -> Result<(), Refusal>
         ensures answer { λ r. ⌜ told r ≡ put-outcome (terms (now (self .entry))) (Self·Grid .holds (now (self .entry))) (put-at row column code) ⌝ }
         ensures after { λ _. ⌜ Self·Grid .holds (now (self .exit)) ≡ put-after (terms (now (self .entry))) (Self·Grid .holds (now (self .entry))) (put-at row column code) ⌝ }

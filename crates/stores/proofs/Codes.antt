@@ -1,17 +1,17 @@
 -- A code that is written into a byte, and the codes of bytes after it.
-use mathlib.Core.Path.{_≡_, refl, sym, ap, _∙_}
-use mathlib.Core.Bool.{Bool, true, false, cond}
+use mathlib.Core.Path.{_≡_, sym, ap, _∙_}
+use mathlib.Core.Bool.{cond}
 use mathlib.Core.List.{List}
 use mathlib.Core.Logic.{⊎-elim, _≢_}
-use Prim.Native.Nat.{ℕ, zero, suc, _+_, _-_, _*_, _/_, _%_, _^_, _≤_, _<_}
+use Prim.Native.Nat.{ℕ, _+_, _-_, _*_, _/_, _%_, _^_, _≤_, _<_}
 use native.Mathlib.Omega.{arith}
-use native.Mathlib.Nat.{add-mul, mul-assoc, add-mul-mod-self-right, mul-le-mul-right, mul-comm, mul-add}
+use native.Mathlib.Nat.{add-mul, mul-assoc, add-mul-mod-self-right, mul-comm, mul-add}
 use lib.Dec.{eqb}
 use lib.ListN.{length, getD, set}
 use lib.Seq.{getD-set-same, getD-set-other}
 use lib.Arith.{digits-lt}
 use Rattle.std.proofs.shelf.Tests.{cases-eq, cases-order, cond-true, cond-false, eq-eqb, ne-eqb}
-use Rattle.std.proofs.shelf.Bits.{pow-pos, pow-add, shr-shr, shr-high, mod-low, field-of, shr-below, mod-below, div-add-mod', mul-le, div-below}
+use Rattle.std.proofs.shelf.Bits.{pow-pos, pow-add, shr-shr, shr-high, mod-low, field-of, shr-below, mod-below, div-add-mod', mul-le}
 use Rattle.stores.specs.Packed.{code-in, code-at, per-byte, replaced}
 
 low-lt : (x e b v : ℕ) → v < 2 ^ b → v * 2 ^ e + x % 2 ^ e < 2 ^ (e + b)

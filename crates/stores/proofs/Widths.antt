@@ -1,14 +1,11 @@
 -- What the width of an entry says of bytes, codes and places.
-use mathlib.Core.Path.{_≡_, refl, sym, ap, _∙_, subst}
-use mathlib.Core.Bool.{Bool, true, false, cond}
+use mathlib.Core.Path.{_≡_, sym, ap, _∙_}
 use mathlib.Core.List.{List}
-use mathlib.Core.Logic.{_⊎_, inl, inr, ⊎-elim}
+use mathlib.Core.Logic.{_⊎_, ⊎-elim}
 use Prim.Native.Nat.{ℕ, zero, suc, _+_, _-_, _*_, _/_, _%_, _^_, _≤_, _<_, min}
 use native.Mathlib.Omega.{arith}
 use native.Mathlib.Nat.{mul-comm, mul-assoc, mul-add, add-mul, zero-div, zero-mod}
-use lib.ListN.{length, getD}
-use lib.Dec.{leb}
-use lib.Arith.{digits-div}
+use lib.ListN.{getD}
 use Rattle.std.proofs.shelf.Bits.{mul-le, mod-below, div-below, div-add-mod', div-mul-add, pow-below}
 use Rattle.std.proofs.shelf.Tests.{cases-lt, cases-eq}
 use Rattle.stores.specs.Packed.{per-byte, code-in, code-at, bytes-for}
@@ -34,9 +31,6 @@ code-room w k h l = omega (arith, mul-le w (k + 1) w (per-byte w) (omega arith) 
 
 pub bits-le : (w : ℕ) → Whole w → w ≤ 8
 bits-le w h = omega (arith, code-room w 0 h (per-pos w h))
-
-pub per-le : (w : ℕ) → Whole w → per-byte w ≤ 8
-per-le w h = omega (arith, mul-le 1 (per-byte w) w (per-byte w) (bits-pos w h) (omega arith))
 
 pub bound-le : (w : ℕ) → Whole w → 2 ^ w ≤ 256
 bound-le w h = ⊎-elim (λ (l : w < 8). omega (arith, pow-below w 8 l)) (λ (l : 8 ≤ w). let e : w ≡ 8 = omega (arith, bits-le w h) in omega (arith, ap (λ x. 2 ^ x) e)) (cases-lt w 8)

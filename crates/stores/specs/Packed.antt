@@ -1,5 +1,5 @@
 -- Codes of w bits each in a row of bytes, the first in the lowest bits; w is 1, 2, 4 or 8.
-use mathlib.Core.Bool.{Bool, cond, _||_}
+use mathlib.Core.Bool.{cond, _||_}
 use mathlib.Core.List.{List}
 use mathlib.Core.Path.{_≡_}
 use Prim.Native.Nat.{ℕ, _+_, _*_, _/_, _%_, _^_, _≤_, _<_, min}

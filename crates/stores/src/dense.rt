@@ -1,16 +1,18 @@
 // A store that packs its entries into bytes lent to it, column by column, each in so many bits.
 ghost use mathlib.Core.Path.{_≡_};
-ghost use Prim.Native.Nat.{ℕ, _+_, _-_, _*_, _≤_};
+ghost use Prim.Native.Nat.{_+_, _-_, _*_, _≤_};
 ghost use lib.ListN.{length};
 ghost use denote.Ref.{now as behind};
-ghost use Rattle.matrix.specs.Matrix.{Matrix, count, blank, one-if-not-zero};
-ghost use Rattle.matrix.specs.Layout.{place, laid-outside};
-ghost use Rattle.matrix.specs.Terms.{Terms, itself};
+ghost use Rattle.matrix.specs.Matrix.{count, blank};
+ghost use Rattle.matrix.specs.Layout.{laid-outside};
+ghost use Rattle.matrix.specs.Terms.{itself};
 ghost use Rattle.stores.specs.Packed.{code-at, per-byte, bytes-for};
 ghost use Rattle.stores.specs.Dense.{packed, dense-terms};
 use crate::packed::Packed;
 use crate::width::EntryWidth;
 use matrix::grid::Grid;
+use matrix::layout::not_zero;
+use matrix::layout::place_of;
 use matrix::store::Store;
 use refusal::Refusal;
 
@@ -39,20 +41,6 @@ impl<'a> Dense<'a> {
             plane: Packed { bytes },
         }
     }
-}
-
-// The place of an entry, where each column has so many rows.
-fn place_of(rows: u32, row: u32, column: u32) -> usize
-    requires { ⌜ (1 ≤ row) × (1 ≤ column) × (row ≤ rows) ⌝ }
-    ensures { λ r. ⌜ r ≡ place rows row column ⌝ }
-{
-    (column - 1) as usize * rows as usize + (row - 1) as usize
-}
-
-fn not_zero(code: u16) -> u64
-    ensures { λ r. ⌜ r ≡ one-if-not-zero code ⌝ }
-{
-    if code == 0 { 0 } else { 1 }
 }
 
 // The bytes that a shape takes.

@@ -7,9 +7,9 @@ pub returns-in-Break-fill : need.returns-in-Break-fill
 returns-in-Break-fill c =
     let x = err-from-errBy (c .from-residual .result) (c .from-residual .ensures .1) in
     fill-refused _ _ (c .args .rows) (c .args .columns) (c .args .puts .now) (c .fill .result) (c .from-residual .result) (c .in-Break-fill .field-0 .0) (x .0)
-    (c .new-store .ensures .terms) (c .fill .ensures .answer) (c .in-Break-fill .was tt) (x .1) (x .2)
+    (c .new-square .ensures .terms) (c .fill .ensures .answer) (c .in-Break-fill .was tt) (x .1) (x .2)
 
 pub returns : need.returns
 returns c =
     fill-accepted _ _ _ _ (c .args .rows) (c .args .columns) (c .args .puts .now) (c .fill .result) tt (c .nonzero .result)
-    (c .new-store .ensures .terms) (c .fill .ensures .answer) (c .fill .ensures .after) (c .in-Continue-fill .was tt) (c .nonzero .ensures)
+    (c .new-square .ensures .terms) (c .fill .ensures .answer) (c .fill .ensures .after) (c .in-Continue-fill .was tt) (c .nonzero .ensures)

@@ -1,6 +1,6 @@
 -- The shape is taken exactly if it is square and the memory holds it, and memory of zeros is a matrix of zeros.
 use native.Mathlib.Omega.{arith}
-use mathlib.Core.Path.{_≡_, refl, sym, ap, _∙_}
+use mathlib.Core.Path.{refl, sym, ap, _∙_}
 use lib.ListN.{length}
 use Rattle.matrix.specs.Matrix.{blank}
 use Rattle.matrix.specs.Terms.{left-by}
@@ -13,7 +13,7 @@ pub returns-then-rows-columns : need.returns-then-rows-columns
 returns-then-rows-columns c =
     let s = c .args .self .now in
     let o = square-refused (c .args .rows) (c .args .columns) (length (s .memory .codes .now)) (λ p q. elim (c .then-rows-columns .came) [
-      | then-rows-columns·by·then-rows-columns w ↦ w .if-rows-columns .taken p
+      | then-rows-columns·by·then-rows-columns w ↦ omega (arith, w .if-rows-columns .taken)
       | then-rows-columns·by·else-rows-columns·then-rows-columns-2 w ↦ omega (arith, w .if-rows-columns-2 .taken)
     ]) in
     record { answer = sym o; after = sym (ap (λ x. left-by x (blank (c .args .rows) (c .args .columns)) (square (s .side) (s .memory .codes .now))) o); terms = refl; backing = refl }

@@ -1,10 +1,8 @@
 -- The code that was written is one put, and the count that is kept follows it.
 use native.Mathlib.Omega.{arith}
-use mathlib.Core.Path.{_≡_, refl, sym, ap, _∙_}
-use mathlib.Core.Bool.{cond}
-use Prim.Native.Nat.{ℕ, _*_, _≤_, _<_}
-use lib.Dec.{eqb}
-use lib.ListN.{length, getD, set, length-set}
+use mathlib.Core.Path.{refl, sym, ap, _∙_}
+use Prim.Native.Nat.{_<_}
+use lib.ListN.{length, getD, length-set}
 use Rattle.std.proofs.shelf.Bits.{mul-le}
 use Rattle.matrix.specs.Matrix.{one-if-not-zero}
 use Rattle.matrix.proofs.Counts.{count-le, one-if-not-zero-le}

@@ -1,6 +1,6 @@
 -- What the scan stops at is the last, since the rows above it are zero.
 use native.Mathlib.Omega.{arith}
-use mathlib.Core.Path.{_≡_, sym, _∙_}
+use mathlib.Core.Path.{_∙_}
 use Rattle.std.specs.declared.option.Option.the-variants.{Some, None}
 use Rattle.matrix.proofs.Nonzeros.{last-by}
 use Rattle.matrix.proofs.grid.Grid.last_nonzero.Needs as need

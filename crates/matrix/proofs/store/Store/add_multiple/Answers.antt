@@ -1,11 +1,11 @@
 -- Each turn makes the put that is due at its row, and the puts still to come stay those of the definition.
-use mathlib.Core.Path.{_≡_, refl, ap, _∙_}
+use mathlib.Core.Path.{refl, ap, _∙_}
 use native.Mathlib.Omega.{arith}
 use Prim.Native.Nat.{_+_, _<_}
 use Rattle.std.proofs.shelf.Results.{err-from-errBy}
 use Rattle.matrix.specs.Matrix.{put-at}
 use Rattle.matrix.specs.Terms.{put-outcome, put-after}
-use Rattle.matrix.proofs.Multiples.{adding-start, adding-skip, adding-put, adding-refused, adding-end, Due, adding-by}
+use Rattle.matrix.proofs.Multiples.{adding-start, adding-skip, adding-put, adding-refused, adding-end, adding-by}
 use Rattle.matrix.proofs.store.Store.add_multiple.Needs as need
 use Rattle.matrix.proofs.store.Store.add_multiple.Needs.{then-code-ne0·in-Continue-put, else-code-ne0}
 

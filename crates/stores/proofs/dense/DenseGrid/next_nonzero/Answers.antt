@@ -1,7 +1,7 @@
 -- The scan of the column's places finds its next nonzero row.
 use native.Mathlib.Omega.{arith}
-use mathlib.Core.Path.{_≡_, ap, subst}
-use Prim.Native.Nat.{_+_, _-_, _*_, _≤_, max}
+use mathlib.Core.Path.{subst}
+use Prim.Native.Nat.{_+_, _-_, _*_, max}
 use Rattle.std.proofs.shelf.Bits.{mul-le}
 use Rattle.stores.specs.Packed.{code-at, Scanned}
 use Rattle.stores.proofs.Scans.{column-end, scan-outside, scan-found, scan-none}

@@ -1,11 +1,10 @@
 -- The bytes that the shape takes are there exactly if its bits are, and empty bytes are a matrix of zeros.
 use native.Mathlib.Omega.{arith}
-use mathlib.Core.Path.{_≡_, refl, sym, ap, _∙_}
-use Prim.Native.Nat.{_*_, _≤_}
+use mathlib.Core.Path.{refl, sym, ap, _∙_}
+use Prim.Native.Nat.{_*_}
 use lib.ListN.{length}
 use Rattle.matrix.specs.Matrix.{blank}
 use Rattle.matrix.specs.Terms.{left-by}
-use Rattle.stores.specs.Packed.{bytes-for}
 use Rattle.stores.specs.Dense.{packed, dense-terms}
 use Rattle.stores.proofs.Widths.{bytes-hold}
 use Rattle.stores.proofs.Begins.{begin-refused, begin-accepted, packed-blank, packed-count, cleared-to}

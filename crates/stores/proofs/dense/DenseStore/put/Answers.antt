@@ -1,7 +1,7 @@
 -- The entry that was written is one put, and the count that is kept follows it.
 use native.Mathlib.Omega.{arith}
 use mathlib.Core.Path.{_≡_, refl, sym, ap, _∙_}
-use Prim.Native.Nat.{_*_, _≤_}
+use Prim.Native.Nat.{_*_}
 use lib.ListN.{length}
 use Rattle.std.proofs.shelf.Bits.{mul-le}
 use Rattle.matrix.specs.Matrix.{one-if-not-zero}

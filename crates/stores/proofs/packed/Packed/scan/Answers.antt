@@ -1,9 +1,6 @@
 -- The byte is there, and an empty one is passed whole.
 use native.Mathlib.Omega.{arith}
-use mathlib.Core.Path.{_≡_, ap, _∙_, subst, sym}
-use mathlib.Core.Logic.{⊎-elim}
-use Prim.Native.Nat.{ℕ, _+_, _*_, _/_, _≤_, _<_}
-use Rattle.stores.proofs.Widths.{byte-of, code-of, bits-pos, bits-le, per-pos, passed-byte}
+use Rattle.stores.proofs.Widths.{byte-of, code-of, bits-pos, bits-le, passed-byte}
 use Rattle.stores.proofs.packed.Packed.scan.Needs as need
 
 pub index-self-place : need.index-self-place

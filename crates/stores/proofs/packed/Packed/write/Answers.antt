@@ -1,9 +1,5 @@
 -- The byte is there, and writing one of its codes changes no other.
-use native.Mathlib.Omega.{arith}
-use mathlib.Core.Path.{ap, _∙_}
-use Prim.Native.Nat.{_/_}
-use lib.ListN.{length, set, length-set}
-use Rattle.stores.specs.Packed.{code-at}
+use lib.ListN.{length-set}
 use Rattle.stores.proofs.Codes.{written-at}
 use Rattle.stores.proofs.Widths.{byte-of, code-of}
 use Rattle.stores.proofs.packed.Packed.write.Needs as need
