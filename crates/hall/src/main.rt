@@ -12,6 +12,7 @@ use std::io;
 use std::io::BufReader;
 use storage::Kind;
 use storage::with_dense;
+use storage::with_sparse;
 
 // At first there is a dense store of 8 bits over no bytes.
 fn main(rt: LibcRuntime) -> io::Result<()> {
@@ -28,6 +29,13 @@ fn main(rt: LibcRuntime) -> io::Result<()> {
         }
         let next = match kind {
             Kind::Dense(width, size) => with_dense(&rt, &mut reader, &mut session, width, size)?,
+            Kind::Sparse(cells, heads) => with_sparse(
+                &rt,
+                &mut reader,
+                &mut session,
+                cells,
+                heads,
+            )?,
         };
         match next {
             Next::Stay | Next::End => return Ok(()),

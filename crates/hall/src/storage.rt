@@ -8,6 +8,11 @@ use matrix::lent::LentGrid;
 use matrix::lent::LentStore;
 use matrix::store::Store;
 use refusal::Refusal;
+use sparse::cell::Cell;
+use sparse::cell::CellDefault;
+use sparse::sparse::Sparse;
+use sparse::sparse::SparseGrid;
+use sparse::sparse::SparseStore;
 use std::io;
 use std::io::BufRead;
 use std::io::BufReader;
@@ -22,6 +27,8 @@ use stores::width::EntryWidth;
 pub enum Kind {
     // the width of an entry, which was checked, and the number of bytes
     Dense(u32, usize),
+    // the numbers of cells and of column heads
+    Sparse(usize, usize),
 }
 
 // A number of rows or columns; one above 32 bits counts as the greatest of 32 bits.
@@ -51,6 +58,7 @@ pub fn choose_store(rt: &LibcRuntime, line: &str, rest: &str) -> io::Result<Next
             Ok(_) => return Ok(Next::Remake(Kind::Dense(first, second as usize))),
             Err(refusal) => refused(rt, refusal)?,
         },
+        "sparse" => return Ok(Next::Remake(Kind::Sparse(first as usize, second as usize))),
         _ => unknown(rt, line)?,
     }
     Ok(Next::Stay)
@@ -146,5 +154,19 @@ pub fn with_dense(
     };
     let mut bytes = vec![in rt.alloc(); 0u8; size]?;
     let mut store = Dense::new(width, &mut bytes);
+    talk(rt, reader, session, &mut store)
+}
+
+// The lines while a sparse store lasts.
+pub fn with_sparse(
+    rt: &LibcRuntime,
+    reader: &mut BufReader<Stdin>,
+    session: &mut Session,
+    cells: usize,
+    heads: usize,
+) -> io::Result<Next> {
+    let mut cells = vec![in rt.alloc(); Cell::default(); cells]?;
+    let mut heads = vec![in rt.alloc(); 0u16; heads]?;
+    let mut store = Sparse::new(&mut cells, &mut heads);
     talk(rt, reader, session, &mut store)
 }
