@@ -9,8 +9,8 @@ ghost use Rattle.complex.specs.Orders.{ascends, «edge-less»};
 
 // The edges ascend, and there are no more than a survey can have.
 #[derive(Drop)]
-pub struct BoundaryGrid<'a> {
-    lists: Lists<'a>,
+pub struct BoundaryGrid<'e, 't, 'f> {
+    lists: Lists<'e, 't, 'f>,
     ghost links: { length (behind (lists .edges)) ≤ 512 },
     ghost thirds: { length (behind (lists .triangles)) ≤ 1024 },
     ghost rising: { ascends «edge-less» (behind (lists .edges)) ≡ true },

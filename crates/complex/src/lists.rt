@@ -14,14 +14,14 @@ ghost use Rattle.matrix.specs.Nonzero.{next-in};
 ghost use Rattle.complex.specs.Grids.{matrix-of, Few, Ordered, Nearer};
 
 #[derive(Clone, Copy)]
-pub(crate) struct Lists<'a> {
-    pub(crate) edges: &'a [Edge],
-    pub(crate) triangles: &'a [Triangle],
-    pub(crate) fence: &'a [u16],
+pub(crate) struct Lists<'e, 't, 'f> {
+    pub(crate) edges: &'e [Edge],
+    pub(crate) triangles: &'t [Triangle],
+    pub(crate) fence: &'f [u16],
     pub(crate) minus: u16,
 }
 
-impl<'a> Lists<'a> {
+impl<'e, 't, 'f> Lists<'e, 't, 'f> {
     // A row for each edge, and one for each triangle.
     pub(crate) fn rows(&self) -> u32
         requires { ⌜ Few (now self) ⌝ }

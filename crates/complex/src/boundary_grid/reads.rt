@@ -33,14 +33,14 @@ fn usable_triangles(triangles: &[Triangle]) -> &[Triangle]
     }
 }
 
-impl<'a> BoundaryGrid<'a> {
+impl<'e, 't, 'f> BoundaryGrid<'e, 't, 'f> {
     // The grid of listed edges and triangles, a fence, and a field's code for -1. A list that no survey can have counts as empty.
     pub fn new(
-        edges: &'a [Edge],
-        triangles: &'a [Triangle],
-        fence: &'a [u16],
+        edges: &'e [Edge],
+        triangles: &'t [Triangle],
+        fence: &'f [u16],
         minus: u16,
-    ) -> BoundaryGrid<'a>
+    ) -> BoundaryGrid<'e, 't, 'f>
         ensures holds { λ r. ⌜ «matrix-of» (r .lists) ≡ «starting-matrix» («listed-system» minus («usable-edges» (now (edges .entry))) («usable-triangles» (now (triangles .entry))) (now (fence .entry))) ⌝ }
         ensures survey { λ r. ⌜ OfSurveys (now (edges .entry)) (now (triangles .entry)) (now (fence .entry)) minus («matrix-of» (r .lists)) ⌝ }
     {
@@ -57,7 +57,7 @@ impl<'a> BoundaryGrid<'a> {
     }
 }
 
-pub impl<'a> Grid for BoundaryGrid<'a> as StartingGrid {
+pub impl<'e, 't, 'f> Grid for BoundaryGrid<'e, 't, 'f> as StartingGrid {
     ghost holds = { λ g. «matrix-of» (g .lists) };
 
     ghost outside = { λ g. «starting-outside» _ };
