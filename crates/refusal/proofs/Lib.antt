@@ -1,1 +1,2 @@
+-- Lemmas of the crate.
 pub mod Outcomes

@@ -1,3 +1,4 @@
+-- Lemmas of the crate.
 pub mod Tables
 pub mod Lists
 pub mod Walks

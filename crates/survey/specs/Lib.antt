@@ -1,3 +1,4 @@
+-- What the contracts of the crate cite.
 pub mod Lists
 pub mod Tables
 pub mod Surveys

@@ -1,3 +1,4 @@
+-- Lemmas of the crate.
 pub mod Columns
 pub mod Pieces
 pub mod Rising

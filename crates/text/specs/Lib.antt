@@ -1,3 +1,4 @@
+-- What the contracts of the crate cite.
 pub mod Columns
 pub mod Symbols
 pub mod Text

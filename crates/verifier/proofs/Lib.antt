@@ -1,2 +1,3 @@
+-- Lemmas of the crate.
 pub mod Tables
 pub mod Sets

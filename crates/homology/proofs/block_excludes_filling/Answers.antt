@@ -1,3 +1,4 @@
+-- The theorem, as it is proved in `Separation`.
 use Rattle.homology.proofs.block_excludes_filling.Needs as need
 use Rattle.homology.proofs.Separation.{block-excludes-filling}
 

@@ -1,3 +1,4 @@
+-- The theorem, as it is proved in `Examples`.
 use Rattle.homology.proofs.hub_computes.Needs as need
 use Rattle.homology.proofs.Examples.{hub-computes}
 

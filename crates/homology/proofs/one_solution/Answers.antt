@@ -1,3 +1,4 @@
+-- The theorem, as it is proved in `Unique`.
 use Rattle.homology.proofs.one_solution.Needs as need
 use Rattle.homology.proofs.Unique.{only-solution}
 
