@@ -1,4 +1,7 @@
-// Tests of reading, writing and the rules on large and odd inputs.
+// Tests of reading, writing and the rules on large and odd inputs, of the complex and of the stores.
+#[cfg(test)]
+mod stores;
+
 #[cfg(test)]
 mod tests {
     use refusal::Refusal;
