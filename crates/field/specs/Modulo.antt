@@ -1,6 +1,6 @@
 -- Products modulo a number, and inverses there: one that is found is the one that is defined.
 use Rattle.std.specs.Prelude.{◌≡◌, ℕ, zero, suc, ◌+◌, ◌*◌, ◌/◌, ◌%◌, ◌<◌, Bool, true, false, nat_eq, refl}
-use Rattle.std.proofs.Common.{sym, ap, ◌∙◌, ⊎_elim, mul_comm, mul_one, mod-eq_of_lt, zero_mul, arith}
+use Rattle.std.proofs.Common.{sym, ap, ◌∙◌, ⊎_elim, mul_comm, mul-one, mod-eq_of_lt, zero-mul, arith}
 use Rattle.std.proofs.Math.Nat.{mul-add-mod_self_left, div-add-mod, zero-mod}
 use Rattle.std.proofs.lemmas.Bool.{cases_eq, cond-true, cond-false, cases_Bool, eqb-true, eq-eqb, ne_eqb, true≢false}
 use Rattle.field.specs.Counting.{last_below}
@@ -40,7 +40,7 @@ last_below_none (suc n) t h = cond-false (t n) n (last_below n t) (h n) ∙ last
 one_inverse : (p a i j : ℕ) → i < p → j < p → a * i % p ≡ 1 → a * j % p ≡ 1 → i ≡ j
 one_inverse p a i j h k e f =
     let back : (i j : ℕ) → i < p → a * j % p ≡ 1 → i * (a * j) % p ≡ i = λ i j h f.
-    sym (mul_mod_mod i (a * j) p) ∙ ap (λ t. i * t % p) f ∙ ap (λ t. t % p) (mul_one i) ∙ mod-eq_of_lt h in
+    sym (mul_mod_mod i (a * j) p) ∙ ap (λ t. i * t % p) f ∙ ap (λ t. t % p) (mul-one i) ∙ mod-eq_of_lt h in
     let swap : i * (a * j) ≡ j * (a * i) = omega arith in
     sym (back i j h f) ∙ ap (λ t. t % p) swap ∙ back j i k e
 
@@ -52,4 +52,4 @@ inverse_is p a i h e =
 pub inverse_of_zero : (p : ℕ) → inverse_modulo p 0 ≡ 0
 inverse_of_zero p =
     last_below_none p (λ i. nat_eq (0 * i % p) 1)
-    (λ i. ne_eqb _ _ (λ e. let z : 0 * i % p ≡ 0 = ap (λ t. t % p) (zero_mul i) ∙ zero-mod p in omega arith))
+    (λ i. ne_eqb _ _ (λ e. let z : 0 * i % p ≡ 0 = ap (λ t. t % p) (zero-mul i) ∙ zero-mod p in omega arith))

@@ -1,6 +1,6 @@
 -- The numbers modulo an odd prime are a field.
 use Rattle.std.specs.Prelude.{◌≡◌, ℕ, ◌+◌, ◌-◌, ◌*◌, ◌%◌, ◌<◌, ◌≤◌, nat_eq}
-use Rattle.std.proofs.Common.{sym, ap, ◌∙◌, add_comm, add_assoc, mul_comm, mul_assoc, mul_one, mul_add, mod-lt, mod-eq_of_lt, arith}
+use Rattle.std.proofs.Common.{sym, ap, ◌∙◌, add_comm, add_assoc, mul_comm, mul_assoc, mul-one, mul-add, mod-lt, mod-eq_of_lt, arith}
 use Rattle.std.proofs.Math.Nat.{mod_self, mod-add-mod, add-mod-mod, add-mod}
 use Rattle.field.specs.Arithmetic.{FieldLaws}
 use Rattle.field.specs.Primes.{OddPrime}
@@ -26,8 +26,8 @@ residue_laws p o =
       sum_zero = λ a h. ap (λ t. t % p) (omega arith) ∙ mod-eq_of_lt h;
       product_comm = λ a b h k. ap (λ t. t % p) (mul_comm a b);
       product_assoc = λ a b c h k l. mod_mul_mod (a * b) c p ∙ ap (λ t. t % p) (mul_assoc a b c) ∙ sym (mul_mod_mod a (b * c) p);
-      product_one = λ a h. ap (λ t. t % p) (mul_one a) ∙ mod-eq_of_lt h;
-      distributes = λ a b c h k l. mul_mod_mod a (b + c) p ∙ ap (λ t. t % p) (mul_add a b c) ∙ add-mod (a * b) (a * c) p;
+      product_one = λ a h. ap (λ t. t % p) (mul-one a) ∙ mod-eq_of_lt h;
+      distributes = λ a b c h k l. mul_mod_mod a (b + c) p ∙ ap (λ t. t % p) (mul-add a b c) ∙ add-mod (a * b) (a * c) p;
       sum_negative = λ a h. add-mod-mod a (p - a) p ∙ ap (λ t. t % p) (let e : a + (p - a) ≡ p = omega arith in e) ∙ mod_self p;
       product_inverse = λ a h n. has_inverse p a o (omega arith) h;
       inverse_zero = inverse_of_zero p;

@@ -50,13 +50,13 @@ after_split : (o b : Outcome (Unit {0})) (x y z old : Matrix) → x ≡ left_by 
 after_split (accepted _) b x y z old e = e
 after_split (refused k) b x y z old e = refl
 
-pub puts-outcome-++ : (t : Terms) (m : Matrix) (ps qs : List Put) → puts_outcome t m (ps ++ qs) ≡ and_then (puts_outcome t m ps) (λ _. puts_outcome t (played m ps) qs)
-puts-outcome-++ t m [] qs = refl
-puts-outcome-++ t m (p ∷ ps) qs = outcome_split (put_outcome t m p) _ _ _ (puts-outcome-++ t (put_into m p) ps qs)
+pub puts_outcome-++ : (t : Terms) (m : Matrix) (ps qs : List Put) → puts_outcome t m (ps ++ qs) ≡ and_then (puts_outcome t m ps) (λ _. puts_outcome t (played m ps) qs)
+puts_outcome-++ t m [] qs = refl
+puts_outcome-++ t m (p ∷ ps) qs = outcome_split (put_outcome t m p) _ _ _ (puts_outcome-++ t (put_into m p) ps qs)
 
-pub puts-after-++ : (t : Terms) (m : Matrix) (ps qs : List Put) → puts_after t m (ps ++ qs) ≡ left_by (puts_outcome t m ps) (puts_after t (played m ps) qs) (puts_after t m ps)
-puts-after-++ t m [] qs = refl
-puts-after-++ t m (p ∷ ps) qs = after_split (put_outcome t m p) (puts_outcome t (put_into m p) ps) _ _ _ _ (puts-after-++ t (put_into m p) ps qs)
+pub puts_after-++ : (t : Terms) (m : Matrix) (ps qs : List Put) → puts_after t m (ps ++ qs) ≡ left_by (puts_outcome t m ps) (puts_after t (played m ps) qs) (puts_after t m ps)
+puts_after-++ t m [] qs = refl
+puts_after-++ t m (p ∷ ps) qs = after_split (put_outcome t m p) (puts_outcome t (put_into m p) ps) _ _ _ _ (puts_after-++ t (put_into m p) ps qs)
 
 all_accepted : (o a : Outcome (Unit {0})) (x y old : Matrix) → and_then o (λ _. a) ≡ accepted tt → (a ≡ accepted tt → x ≡ y) → left_by o x old ≡ y
 all_accepted (accepted _) a x y old e h = h e
@@ -123,8 +123,8 @@ first_past_limit t m ps p qs fit fits room over =
     highest_tells t m ps fit (omega (arith, highest_first m ps)) ∙ cond-true (leb (highest m ps) (limit_of t m)) _ _ (le-leb _ _ room) in
     let here : put_outcome t n p ≡ refused (number_of StoreFull) =
     put_outcome_by t n p (fits_played t m ps p fits) (omega (arith, highest_last m ps)) ∙ cond-false (leb (count (put_into n p)) (limit_of t n)) _ _ (lt-leb _ _ (omega arith)) in (
-      puts-outcome-++ t m ps (p ∷ qs) ∙ ap (λ o. and_then o (λ _. puts_outcome t n (p ∷ qs))) before ∙ ap (λ o. and_then o (λ _. puts_outcome t (put_into n p) qs)) here,
-      puts-after-++ t m ps (p ∷ qs) ∙ ap (λ o. left_by o (puts_after t n (p ∷ qs)) (puts_after t m ps)) before ∙ ap (λ o. left_by o (puts_after t (put_into n p) qs) n) here,
+      puts_outcome-++ t m ps (p ∷ qs) ∙ ap (λ o. and_then o (λ _. puts_outcome t n (p ∷ qs))) before ∙ ap (λ o. and_then o (λ _. puts_outcome t (put_into n p) qs)) here,
+      puts_after-++ t m ps (p ∷ qs) ∙ ap (λ o. left_by o (puts_after t n (p ∷ qs)) (puts_after t m ps)) before ∙ ap (λ o. left_by o (puts_after t (put_into n p) qs) n) here,
     )
 
 -- Puts that were made, and those still to come: from m by ps is from n by qs.

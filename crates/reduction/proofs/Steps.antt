@@ -8,7 +8,7 @@ use Rattle.field.specs.Arithmetic.{Arithmetic, FieldLaws}
 use Rattle.matrix.specs.Matrix.{Matrix, Entries, Outside, over, played}
 use Rattle.matrix.specs.Multiples.{adding, added_by}
 use Rattle.matrix.specs.Terms.{Terms, told, puts_outcome, puts_after}
-use Rattle.matrix.proofs.Puts.{puts-outcome-++, accepted_played}
+use Rattle.matrix.proofs.Puts.{puts_outcome-++, accepted_played}
 use Rattle.matrix.proofs.Multiples.{adding_adds_lem}
 use Rattle.homology.specs.Reduction.{Addition, Course, due, factor, added, addition_puts, before, still, course, enough}
 use Rattle.homology.proofs.Lows.{some_not_none}
@@ -68,7 +68,7 @@ module _ (F : Arithmetic) (f : FieldLaws F) (E T : ℕ) where
     outcome_here : (o : Outcome (Unit {0})) → told r ≡ o → left_outcome F E T t m k ≡ and_then o (λ _. puts_outcome t (played m (addition_puts F (E + T) m.at a)) next.puts)
     outcome_here o e =
         ap (λ c. puts_outcome t m c.puts) here
-        ∙ puts-outcome-++ t m (addition_puts F (E + T) m.at a) next.puts
+        ∙ puts_outcome-++ t m (addition_puts F (E + T) m.at a) next.puts
         ∙ ap (λ o. and_then o (λ _. puts_outcome t (played m (addition_puts F (E + T) m.at a)) next.puts)) (ap (puts_outcome t m) (sym puts_are) ∙ sym answer ∙ e)
 
     made : (u : Unit {0}) → r ≡ Ok u → n ≡ over m (added F m.at a)

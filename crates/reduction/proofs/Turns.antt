@@ -9,7 +9,7 @@ use Rattle.field.specs.Arithmetic.{Arithmetic}
 use Rattle.matrix.specs.declared.put.Put.{Put}
 use Rattle.matrix.specs.Matrix.{Matrix, Entries, put_at, played}
 use Rattle.matrix.specs.Terms.{Terms, told, left_by, put_outcome, put_after, puts_outcome, puts_after}
-use Rattle.matrix.proofs.Puts.{Leads, Comes, leads_start, leads_by, leads_put, leads_refused, leads_end, puts-outcome-++, puts-after-++, accepted_played}
+use Rattle.matrix.proofs.Puts.{Leads, Comes, leads_start, leads_by, leads_put, leads_refused, leads_end, puts_outcome-++, puts_after-++, accepted_played}
 use Rattle.complex.specs.Systems.{System, starting}
 use Rattle.homology.specs.Reduction.{column_puts, loading}
 use Rattle.reduction.specs.Grids.{code_of, codes_of, system_of, height_of, width_of}
@@ -61,8 +61,8 @@ leads_run t m n new all ps qs r u h comes is =
     let o : puts_outcome t n ps ≡ accepted u = sym comes.answer ∙ ap told is in
     let moved = accepted_played t n ps o in
     record {
-      outcomes = h.outcomes ∙ puts-outcome-++ t n ps qs ∙ ap (λ x. and_then x (λ _. puts_outcome t (played n ps) qs)) o ∙ ap (λ k. puts_outcome t k qs) (sym moved ∙ sym comes.after);
-      afters = h.afters ∙ puts-after-++ t n ps qs ∙ ap (λ x. left_by x (puts_after t (played n ps) qs) (puts_after t n ps)) o ∙ ap (λ k. puts_after t k qs) (sym moved ∙ sym comes.after);
+      outcomes = h.outcomes ∙ puts_outcome-++ t n ps qs ∙ ap (λ x. and_then x (λ _. puts_outcome t (played n ps) qs)) o ∙ ap (λ k. puts_outcome t k qs) (sym moved ∙ sym comes.after);
+      afters = h.afters ∙ puts_after-++ t n ps qs ∙ ap (λ x. left_by x (puts_after t (played n ps) qs) (puts_after t n ps)) o ∙ ap (λ k. puts_after t k qs) (sym moved ∙ sym comes.after);
     }
 
 pub leads_run_refused : (t : Terms) (m n new : Matrix) (all ps qs : List Put) (r s : Result (Unit {0}) Refusal) (e x : Refusal)
@@ -70,8 +70,8 @@ pub leads_run_refused : (t : Terms) (m n new : Matrix) (all ps qs : List Put) (r
 leads_run_refused t m n new all ps qs r s e x h comes is ends same =
     let o : puts_outcome t n ps ≡ refused (number_of e) = sym comes.answer ∙ ap told is in
     record {
-      answer = ap told (ends ∙ ap Err same) ∙ sym (h.outcomes ∙ puts-outcome-++ t n ps qs ∙ ap (λ x. and_then x (λ _. puts_outcome t (played n ps) qs)) o);
-      after = comes.after ∙ sym (h.afters ∙ puts-after-++ t n ps qs ∙ ap (λ x. left_by x (puts_after t (played n ps) qs) (puts_after t n ps)) o);
+      answer = ap told (ends ∙ ap Err same) ∙ sym (h.outcomes ∙ puts_outcome-++ t n ps qs ∙ ap (λ x. and_then x (λ _. puts_outcome t (played n ps) qs)) o);
+      after = comes.after ∙ sym (h.afters ∙ puts_after-++ t n ps qs ∙ ap (λ x. left_by x (puts_after t (played n ps) qs) (puts_after t n ps)) o);
     }
 
 -- The puts of a column, a turn for each row.

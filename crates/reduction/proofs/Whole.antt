@@ -7,7 +7,7 @@ use Rattle.field.specs.Arithmetic.{Arithmetic, FieldLaws}
 use Rattle.matrix.specs.declared.put.Put.{Put}
 use Rattle.matrix.specs.Matrix.{Matrix, over, played}
 use Rattle.matrix.specs.Terms.{Terms, told, puts_outcome, puts_after}
-use Rattle.matrix.proofs.Puts.{puts-outcome-++, accepted_played}
+use Rattle.matrix.proofs.Puts.{puts_outcome-++, accepted_played}
 use Rattle.complex.specs.Systems.{System, starting}
 use Rattle.homology.specs.Linear.{CodedSystem}
 use Rattle.homology.specs.Certificate.{filling_codes, block_codes}
@@ -38,7 +38,7 @@ module _ (F : Arithmetic) (f : FieldLaws F) (S : System) (coded : CodedSystem F 
 
     pub load_refused : (e : Refusal) → r ≡ Err e → puts_outcome t (empty S) (all_puts F S) ≡ refused (number_of e)
     load_refused e is =
-        puts-outcome-++ t (empty S) loads (reduction F S).puts
+        puts_outcome-++ t (empty S) loads (reduction F S).puts
         ∙ ap (λ o. and_then o (λ _. puts_outcome t (played (empty S) loads) (reduction F S).puts)) (sym outcome_is ∙ ap told is)
 
     module _ (u : Unit {0}) (is : r ≡ Ok u) where
@@ -64,7 +64,7 @@ module _ (F : Arithmetic) (f : FieldLaws F) (S : System) (coded : CodedSystem F 
 
       whole_outcome : puts_outcome t (empty S) (all_puts F S) ≡ left_outcome F E T t n 0
       whole_outcome =
-          puts-outcome-++ t (empty S) loads (reduction F S).puts
+          puts_outcome-++ t (empty S) loads (reduction F S).puts
           ∙ ap (λ o. and_then o (λ _. puts_outcome t (played (empty S) loads) (reduction F S).puts)) (sym outcome_is ∙ ap told is)
           ∙ (λ i. puts_outcome t ((loading_loads (starting S) (E + T) (T + 1) (starting_outside S) ∙ sym loaded) i) (sym whole_left i).puts)
 

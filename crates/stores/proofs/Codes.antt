@@ -1,5 +1,5 @@
 -- A code that is written into a byte, and the codes of bytes after it.
-use Rattle.std.proofs.Common.{◌≡◌, ℕ, ◌+◌, ◌-◌, ◌*◌, ◌/◌, ◌%◌, ◌^◌, ◌<◌, ◌≤◌, cond, eqb, ◌≢◌, List, length, get_or, set, sym, ap, ◌∙◌, ⊎_elim, mul_assoc, mul_comm, add_mul, mul_add, arith, get_or-set_other, get_or-set_same}
+use Rattle.std.proofs.Common.{◌≡◌, ℕ, ◌+◌, ◌-◌, ◌*◌, ◌/◌, ◌%◌, ◌^◌, ◌<◌, ◌≤◌, cond, eqb, ◌≢◌, List, length, get_or, set, sym, ap, ◌∙◌, ⊎_elim, mul_assoc, mul_comm, add-mul, mul-add, arith, get_or-set_other, get_or-set_same}
 use native.Mathlib.Nat.{add-mul-mod_self_right}
 use lib.Arith.{digits_lt}
 use Rattle.std.proofs.lemmas.Bool.{cases_eq, cases_order, cond-true, cond-false, eq-eqb, ne_eqb}
@@ -19,7 +19,7 @@ replaced_lt x e b v small room h =
 
 replaced_as : (x e b v : ℕ) → replaced x e b v ≡ (x / 2 ^ (e + b) * 2 ^ b + v) * 2 ^ e + x % 2 ^ e
 replaced_as x e b v =
-    omega (arith, add_mul (x / 2 ^ (e + b) * 2 ^ b) v (2 ^ e), mul_assoc (x / 2 ^ (e + b)) (2 ^ b) (2 ^ e), ap (λ n. x / 2 ^ (e + b) * n) (pow-add 2 e b ∙ mul_comm (2 ^ e) (2 ^ b)))
+    omega (arith, add-mul (x / 2 ^ (e + b) * 2 ^ b) v (2 ^ e), mul_assoc (x / 2 ^ (e + b)) (2 ^ b) (2 ^ e), ap (λ n. x / 2 ^ (e + b) * n) (pow-add 2 e b ∙ mul_comm (2 ^ e) (2 ^ b)))
 
 here : (x e b v : ℕ) → v < 2 ^ b → replaced x e b v / 2 ^ e % 2 ^ b ≡ v
 here x e b v h =
@@ -59,10 +59,10 @@ written_in x b k v m h = ⊎_elim
     (λ (e : m ≡ k). ap (λ i. code_in b (replaced x (b * k) b v) i) e ∙ here x (b * k) b v h ∙ sym (cond-true (eqb m k) _ _ (eq-eqb m k e)))
     (⊎_elim
     (λ (l : m < k).
-    let step : b * m + b ≤ b * k = omega (arith, mul-le b (m + 1) b k (omega arith) (omega arith), mul_add b m 1) in
+    let step : b * m + b ≤ b * k = omega (arith, mul-le b (m + 1) b k (omega arith) (omega arith), mul-add b m 1) in
     below x (b * k) b v (b * m) step ∙ sym (cond-false (eqb m k) _ _ (ne_eqb m k (λ e. omega arith))))
     (λ (l : k < m).
-    let step : b * k + b ≤ b * m = omega (arith, mul-le b (k + 1) b m (omega arith) (omega arith), mul_add b k 1) in
+    let step : b * k + b ≤ b * m = omega (arith, mul-le b (k + 1) b m (omega arith) (omega arith), mul-add b k 1) in
     ap (λ y. y % 2 ^ b) (above x (b * k) b v (b * m) h step) ∙ sym (cond-false (eqb m k) _ _ (ne_eqb m k (λ e. omega arith)))))
     (cases_order m k)
 

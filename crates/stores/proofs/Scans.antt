@@ -1,5 +1,5 @@
 -- A scan of the places of one column finds its next nonzero row.
-use Rattle.std.proofs.Common.{◌≡◌, ℕ, zero, ◌+◌, ◌-◌, ◌*◌, ◌<◌, ◌≤◌, max, true, false, ◌⊎◌, Some, None, sym, ap, ◌∙◌, ⊎_elim, mul_comm, add_mul, arith}
+use Rattle.std.proofs.Common.{◌≡◌, ℕ, zero, ◌+◌, ◌-◌, ◌*◌, ◌<◌, ◌≤◌, max, true, false, ◌⊎◌, Some, None, sym, ap, ◌∙◌, ⊎_elim, mul_comm, add-mul, arith}
 use Rattle.std.proofs.lemmas.Nat.{mul-le}
 use Rattle.std.proofs.lemmas.Bool.{cases_Bool}
 use Rattle.matrix.specs.Matrix.{inside}
@@ -13,7 +13,7 @@ use Rattle.stores.specs.Packed.{Scanned}
 pub column_end : (n k j : ℕ) → 1 ≤ j → j ≤ k → (j - 1) * n + n ≤ n * k
 column_end n k j p q =
     let at : j - 1 + 1 ≡ j = omega arith in
-    omega (arith, add_mul (j - 1) 1 n, ap (λ x. x * n) at, mul-le j n k n q (omega arith), mul_comm n k)
+    omega (arith, add-mul (j - 1) 1 n, ap (λ x. x * n) at, mul-le j n k n q (omega arith), mul_comm n k)
 
 -- an entry of the column is zero where its place is, or where it has none
 entry_zero : (n k : ℕ) (f : ℕ → ℕ) (i j : ℕ) → (In n k i j → f (place n i j) ≡ 0) → (laid n k f).at i j ≡ 0

@@ -1,5 +1,5 @@
 -- What the width of an entry says of bytes, codes and places.
-use Rattle.std.proofs.Common.{◌≡◌, ℕ, zero, suc, ◌+◌, ◌-◌, ◌*◌, ◌/◌, ◌%◌, ◌^◌, ◌<◌, ◌≤◌, min, ◌⊎◌, List, get_or, sym, ap, ◌∙◌, ⊎_elim, mul_assoc, mul_comm, add_mul, mul_add, arith}
+use Rattle.std.proofs.Common.{◌≡◌, ℕ, zero, suc, ◌+◌, ◌-◌, ◌*◌, ◌/◌, ◌%◌, ◌^◌, ◌<◌, ◌≤◌, min, ◌⊎◌, List, get_or, sym, ap, ◌∙◌, ⊎_elim, mul_assoc, mul_comm, add-mul, mul-add, arith}
 use native.Mathlib.Nat.{zero-div, zero-mod}
 use Rattle.std.proofs.lemmas.Nat.{mul-le, mod_below, div_below, div-add-mod', div-mul-add, pow_below}
 use Rattle.std.proofs.lemmas.Bool.{cases_lt, cases_eq}
@@ -22,7 +22,7 @@ per_pos w h = (pos_factor w (per_byte_of w) h).1
 
 -- the k-th code lies in the byte
 pub code_room : (w k : ℕ) → Whole w → k < per_byte_of w → w * k + w ≤ 8
-code_room w k h l = omega (arith, mul-le w (k + 1) w (per_byte_of w) (omega arith) (omega arith), mul_add w k 1)
+code_room w k h l = omega (arith, mul-le w (k + 1) w (per_byte_of w) (omega arith) (omega arith), mul-add w k 1)
 
 pub bits_le : (w : ℕ) → Whole w → w ≤ 8
 bits_le w h = omega (arith, code_room w 0 h (per_pos w h))
@@ -55,7 +55,7 @@ bytes_hold w n s h l =
     (λ (d : n % per ≡ 0 → ⊥).
     let o : min 1 (n % per) ≡ 1 = omega (arith, d) in
     let up : n / per + 1 ≤ s = omega (arith, o) in
-    omega (arith, whole, m, mul-le (n / per + 1) per s per up (omega arith), add_mul (n / per) 1 per))
+    omega (arith, whole, m, mul-le (n / per + 1) per s per up (omega arith), add-mul (n / per) 1 per))
     (cases_eq (n % per) 0)
 
 pub bytes_lack : (w n s : ℕ) → Whole w → s < bytes_for w n → s * per_byte_of w < n
@@ -65,7 +65,7 @@ bytes_lack w n s h l =
     ⊎_elim
     (λ (z : n % per ≡ 0).
     let up : s + 1 ≤ n / per = omega (arith, z) in
-    omega (arith, whole, per_pos w h, mul-le (s + 1) per (n / per) per up (omega arith), add_mul s 1 per))
+    omega (arith, whole, per_pos w h, mul-le (s + 1) per (n / per) per up (omega arith), add-mul s 1 per))
     (λ (d : n % per ≡ 0 → ⊥).
     let up : s ≤ n / per = omega arith in
     omega (arith, whole, d, mul-le s per (n / per) per up (omega arith)))
@@ -80,14 +80,14 @@ bits_hold w n s h l = omega (arith, mul-le n w (s * per_byte_of w) w l (omega ar
 
 pub bits_lack : (w n s : ℕ) → Whole w → s * per_byte_of w < n → 8 * s < n * w
 bits_lack w n s h l =
-    omega (arith, mul-le (s * per_byte_of w + 1) w n w (omega arith) (omega arith), eight_times w s h, add_mul (s * per_byte_of w) 1 w, bits_pos w h)
+    omega (arith, mul-le (s * per_byte_of w + 1) w n w (omega arith) (omega arith), eight_times w s h, add-mul (s * per_byte_of w) 1 w, bits_pos w h)
 
 pub per_le : (w : ℕ) → Whole w → per_byte_of w ≤ 8
 per_le w h = omega (arith, mul-le 1 (per_byte_of w) w (per_byte_of w) (bits_pos w h) (omega arith))
 
 -- a place lies in no later byte than one that follows it
 byte_le : (per p q : ℕ) → 0 < per → p ≤ q → p / per ≤ q / per
-byte_le per p q h l = let lt : p / per < q / per + 1 = div_below p per (q / per + 1) h (omega (arith, div-add-mod' q per, mod_below q per h, add_mul (q / per) 1 per)) in omega arith
+byte_le per p q h l = let lt : p / per < q / per + 1 = div_below p per (q / per + 1) h (omega (arith, div-add-mod' q per, mod_below q per h, add-mul (q / per) 1 per)) in omega arith
 
 -- A scan from byte to byte, `per` places in each.
 module _ (w per : ℕ) (h : Whole w) (is : per ≡ per_byte_of w) where
@@ -104,13 +104,13 @@ module _ (w per : ℕ) (h : Whole w) (is : per ≡ per_byte_of w) where
   -- the places of these bytes end less than a byte's behind `end`
   pub places_until : (end r : ℕ) → 0 < end → r ≤ (end - 1) / per + 1 → r * per ≤ end + 7
   places_until end r l le =
-      omega (arith, mul-le r per ((end - 1) / per + 1) per le (omega arith), add_mul ((end - 1) / per) 1 per, div-add-mod' (end - 1) per, per_le w h, is)
+      omega (arith, mul-le r per ((end - 1) / per + 1) per le (omega arith), add-mul ((end - 1) / per) 1 per, div-add-mod' (end - 1) per, per_le w h, is)
 
   -- where the byte of a place and those behind it are empty, all of their places are passed
   pub passed_bytes : (xs : List ℕ) (start p r : ℕ) → get_or xs (p / per) 0 ≡ 0 → p / per + 1 ≤ r → ((i : ℕ) → p / per + 1 ≤ i → i < r → get_or xs i 0 ≡ 0)
       → ((q : ℕ) → start ≤ q → q < p → code_at w xs q ≡ 0) → (p < r * per) × ((q : ℕ) → start ≤ q → q < r * per → code_at w xs q ≡ 0)
   passed_bytes xs start p r empty le empties passed = (
-    omega (arith, mul-le (p / per + 1) per r per le (omega arith), add_mul (p / per) 1 per, div-add-mod' p per, mod_below p per pos),
+    omega (arith, mul-le (p / per + 1) per r per le (omega arith), add-mul (p / per) 1 per, div-add-mod' p per, mod_below p per pos),
     λ q l b. ⊎_elim
         (λ (before : q < p). passed q l before)
         (λ (after : p ≤ q). code_at_none w xs q (ap (λ x. get_or xs (q / x) 0) (sym is) ∙ ⊎_elim

@@ -10,26 +10,26 @@ use Rattle.checking.specs.Claims.{verdict}
 use Rattle.checking.proofs.Tables.{few_edges, few_triangles, never_refused, front_listed}
 use Rattle.checking.proofs.check.Goals as goal
 
-pub returns-in-err-edge-count : goal.returns-in-err-edge-count
-returns-in-err-edge-count g c =
+pub returns-in_err-edge_count : goal.returns-in_err-edge_count
+returns-in_err-edge_count g c =
     let s = survey_of c.args.survey.now in
     let few : length (edges s everyone) ≤ 512 = omega arith in
-    absurd (never_refused _ (replicate 512 no_edge) _ (few_edges s (set_of c.args.on.now) few) c.in-err-edge-count.ensures.answer)
+    absurd (never_refused _ (replicate 512 no_edge) _ (few_edges s (set_of c.args.on.now) few) c.in_err-edge_count.ensures.answer)
 
-pub returns-in-err-triangle-count : goal.returns-in-err-triangle-count
-returns-in-err-triangle-count g c =
+pub returns-in_err-triangle_count : goal.returns-in_err-triangle_count
+returns-in_err-triangle_count g c =
     let s = survey_of c.args.survey.now in
     let few : length (triangles s everyone) ≤ 1024 = omega arith in
-    absurd (never_refused _ (replicate 1024 no_triangle) _ (few_triangles s (set_of c.args.on.now) few) c.in-err-triangle-count.ensures.answer)
+    absurd (never_refused _ (replicate 1024 no_triangle) _ (few_triangles s (set_of c.args.on.now) few) c.in_err-triangle_count.ensures.answer)
 
-pub check-listed-requires : goal.check-listed-requires
-check-listed-requires g c =
+pub check_listed-requires : goal.check_listed-requires
+check_listed-requires g c =
     let s = survey_of c.args.survey.now in
     let on = set_of c.args.on.now in
     let links : length (edges s everyone) ≤ 512 = omega arith in
     let thirds : length (triangles s everyone) ≤ 1024 = omega arith in
-    let es = front_listed (edges s on) (replicate 512 no_edge) c.list-edges.new.out c.in-ok-edge-count.IsEdge-count c.in-ok-edge-count.ensures.answer c.in-ok-edge-count.ensures.after in
-    let ts = front_listed (triangles s on) (replicate 1024 no_triangle) c.list-triangles.new.out c.in-ok-triangle-count.triangle_count c.in-ok-triangle-count.ensures.answer c.in-ok-triangle-count.ensures.after in
+    let es = front_listed (edges s on) (replicate 512 no_edge) c.list_edges.new.out c.in_ok-edge_count.IsEdge-count c.in_ok-edge_count.ensures.answer c.in_ok-edge_count.ensures.after in
+    let ts = front_listed (triangles s on) (replicate 1024 no_triangle) c.list_triangles.new.out c.in_ok-triangle_count.triangle_count c.in_ok-triangle_count.ensures.answer c.in_ok-triangle_count.ensures.after in
     record {
       links = omega (arith, ap length es, few_edges s on links);
       thirds = omega (arith, ap length ts, few_triangles s on thirds);
@@ -41,8 +41,8 @@ returns g c =
     let s = survey_of c.args.survey.now in
     let on = set_of c.args.on.now in
     let F = g.F.Field.arithmetic c.args.field.now in
-    let es = front_listed (edges s on) (replicate 512 no_edge) c.list-edges.new.out c.in-ok-edge-count.IsEdge-count c.in-ok-edge-count.ensures.answer c.in-ok-edge-count.ensures.after in
-    let ts = front_listed (triangles s on) (replicate 1024 no_triangle) c.list-triangles.new.out c.in-ok-triangle-count.triangle_count c.in-ok-triangle-count.ensures.answer c.in-ok-triangle-count.ensures.after in
-    c.check-listed.ensures
+    let es = front_listed (edges s on) (replicate 512 no_edge) c.list_edges.new.out c.in_ok-edge_count.IsEdge-count c.in_ok-edge_count.ensures.answer c.in_ok-edge_count.ensures.after in
+    let ts = front_listed (triangles s on) (replicate 1024 no_triangle) c.list_triangles.new.out c.in_ok-triangle_count.triangle_count c.in_ok-triangle_count.ensures.answer c.in_ok-triangle_count.ensures.after in
+    c.check_listed.ensures
     ∙ ap₂ (λ es ts. verdict F (listed_system (F.negative 1) es ts c.fence.result.now) c.args.claim c.args.codes.now) es ts
     ∙ ap (λ fence. verdict F (listed_system (F.negative 1) (edges s on) (triangles s on) fence) c.args.claim c.args.codes.now) c.fence.ensures

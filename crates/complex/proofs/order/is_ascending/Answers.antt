@@ -3,10 +3,10 @@ use Rattle.std.proofs.Common.{true, false, sym, ◌∙◌, arith}
 use Rattle.complex.proofs.Orders.{rest_more, rest_all, ranked_not}
 use Rattle.complex.proofs.order.is_ascending.Goals as goal
 
-pub returns-in-default : goal.returns-in-default
-returns-in-default g c =
+pub returns-in_default : goal.returns-in_default
+returns-in_default g c =
     let order = g.met.R.TotalOrder in
-    let less = ranked_not g.R.TotalOrder.less order.apart order.chained _ _ c.compare.result c.compare.ensures c.in-default.not-Less in
+    let less = ranked_not g.R.TotalOrder.less order.apart order.chained _ _ c.compare.result c.compare.ensures c.in_default.not-Less in
     sym (rest_more g.R.TotalOrder.less _ _ _ _ false (omega arith) c.loop-i-test.true c.index-list-i.is c.index-list-i-in-loop-i.is less) ∙ c.loop-i.invariant
 
 pub loop-i-preserved : goal.loop-i-preserved

@@ -36,14 +36,14 @@ held a b g x y some a-fits b-fits t =
       times_is = held_small (pos (a / b) *ℤ y) times_most;
     }
 
-pub overflow-mul-result : goal.overflow-mul-result
-overflow-mul-result t c =
-    let h = held c.args.a c.args.b _ _ _ (omega arith) (omega arith) (omega arith) c.extended-gcd-divisor.ensures in
+pub overflow_mul-result : goal.overflow_mul-result
+overflow_mul-result t c =
+    let h = held c.args.a c.args.b _ _ _ (omega arith) (omega arith) (omega arith) c.extended_gcd-divisor.ensures in
     simp (h.quotient_is, h.y_is) (omega (arith, ints, h.times_most))
 
-pub overflow-sub-result : goal.overflow-sub-result
-overflow-sub-result t c =
-    let h = held c.args.a c.args.b _ _ _ (omega arith) (omega arith) (omega arith) c.extended-gcd-divisor.ensures in
+pub overflow_sub-result : goal.overflow_sub-result
+overflow_sub-result t c =
+    let h = held c.args.a c.args.b _ _ _ (omega arith) (omega arith) (omega arith) c.extended_gcd-divisor.ensures in
     simp (h.quotient_is, h.y_is, h.x_is, h.times_is) (omega (arith, ints, h.times_most, h.x_most))
 
 pub returns-then-b-eq0 : goal.returns-then-b-eq0
@@ -51,9 +51,9 @@ returns-then-b-eq0 t c = bezout_none c.args.a c.args.b c.if-b-eq0.true
 
 pub returns-else-b-eq0 : goal.returns-else-b-eq0
 returns-else-b-eq0 t c =
-    let h = held c.args.a c.args.b _ _ _ (omega arith) (omega arith) (omega arith) c.extended-gcd-divisor.ensures in
-    let x = c.extended-gcd-divisor.result.1 in
-    let y = c.extended-gcd-divisor.result.2 in
+    let h = held c.args.a c.args.b _ _ _ (omega arith) (omega arith) (omega arith) c.extended_gcd-divisor.ensures in
+    let x = c.extended_gcd-divisor.result.1 in
+    let y = c.extended_gcd-divisor.result.2 in
     let rest : to_z w32 (of_z w32 (x -ℤ (pos (c.args.a / c.args.b) *ℤ y))) ≡ x -ℤ (pos (c.args.a / c.args.b) *ℤ y)
     = to_z-of_z w32 _ (omega (arith, ints, h.times_most, h.x_most)) in
-    simp (h.quotient_is, h.y_is, h.x_is, h.times_is, rest) (bezout_more c.args.a c.args.b _ _ _ (omega arith) c.extended-gcd-divisor.ensures)
+    simp (h.quotient_is, h.y_is, h.x_is, h.times_is, rest) (bezout_more c.args.a c.args.b _ _ _ (omega arith) c.extended_gcd-divisor.ensures)

@@ -15,8 +15,8 @@ next_put ps i h = drop-cons ps i (put_at 0 0 0) h ∙ ap (λ k. get_or ps i (put
 pub loop-p-init : goal.loop-p-init
 loop-p-init g c = (leads_start (g.S.Store.terms c.args.store.now) (g.S.Grid.holds c.args.store.now) c.args.puts.now _ refl, refl, refl)
 
-pub returns-in-err-put : goal.returns-in-err-put
-returns-in-err-put g c =
+pub returns-in_err-put : goal.returns-in_err-put
+returns-in_err-put g c =
     let m = g.S.Grid.holds c.args.store.now in
     let n = g.S.Grid.holds c.loop-p.store in
     let t = g.S.Store.terms c.args.store.now in
@@ -24,10 +24,10 @@ returns-in-err-put g c =
     let i = c.loop-p.p-index in
     let p = get_or ps i (put_at 0 0 0) in
     let put = c.put.ensures in
-    let x = err_from_is_err_and c.from-residual.result c.from-residual.ensures.1 in
-    let e = leads_refused t m n (g.S.Grid.holds c.put.new.self) ps p (drop (i + 1) ps) c.put.result c.from-residual.result c.in-err-put.field-0.0 x.0
+    let x = err_from_is_err_and c.from_residual.result c.from_residual.ensures.1 in
+    let e = leads_refused t m n (g.S.Grid.holds c.put.new.self) ps p (drop (i + 1) ps) c.put.result c.from_residual.result c.in_err-put.field-0.0 x.0
     (leads_by t m n ps _ _ (next_put ps i c.loop-p-test.true) c.loop-p.invariant.0)
-    (put.answer ∙ ap (λ u. put_outcome u n p) c.loop-p.invariant.1) (put.after ∙ ap (λ u. put_after u n p) c.loop-p.invariant.1) c.in-err-put.was x.1 x.2 in
+    (put.answer ∙ ap (λ u. put_outcome u n p) c.loop-p.invariant.1) (put.after ∙ ap (λ u. put_after u n p) c.loop-p.invariant.1) c.in_err-put.was x.1 x.2 in
     record {
       answer = e.answer;
       after = e.after;
@@ -51,7 +51,7 @@ loop-p-preserved g c =
     let put = c.put.ensures in (
       leads_put t m n (g.S.Grid.holds c.put.new.self) ps p (drop (i + 1) ps) c.put.result tt
           (leads_by t m n ps _ _ (next_put ps i c.loop-p-test.true) c.loop-p.invariant.0)
-          (put.answer ∙ ap (λ u. put_outcome u n p) c.loop-p.invariant.1) (put.after ∙ ap (λ u. put_after u n p) c.loop-p.invariant.1) c.in-ok-put.was,
+          (put.answer ∙ ap (λ u. put_outcome u n p) c.loop-p.invariant.1) (put.after ∙ ap (λ u. put_after u n p) c.loop-p.invariant.1) c.in_ok-put.was,
       put.terms ∙ c.loop-p.invariant.1,
       put.backing ∙ c.loop-p.invariant.2,
     )

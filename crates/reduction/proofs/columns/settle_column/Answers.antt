@@ -9,8 +9,8 @@ use Rattle.reduction.proofs.Settling.{InColumn, Asked, enough_small, in_column_n
 use Rattle.reduction.proofs.Shapes.{of_shape}
 use Rattle.reduction.proofs.columns.settle_column.Goals as goal
 
-pub owner-of-owner-requires : goal.owner-of-owner-requires
-owner-of-owner-requires g c = omega (arith, c.low_row.ensures, low_most (g.S.Grid.holds c.args.store.now).at c.args.shape.edges (c.args.before + 1), c.requires.pivots.long)
+pub owner_of-owner-requires : goal.owner_of-owner-requires
+owner_of-owner-requires g c = omega (arith, c.low_row.ensures, low_most (g.S.Grid.holds c.args.store.now).at c.args.shape.edges (c.args.before + 1), c.requires.pivots.long)
 
 pub loop-owner-init : goal.loop-owner-init
 loop-owner-init g c =
@@ -18,44 +18,44 @@ loop-owner-init g c =
     let laws = g.met.F.Field.laws c.args.field.now in
     let m = g.S.Grid.holds c.args.store.now in
     let t = g.S.Store.terms c.args.store.now in (
-      of_shape (λ E T. InColumn a laws E T t m c.args.additions c.args.before c.args.table.now m c.args.additions c.low_row.result c.owner-of-owner.result)
+      of_shape (λ E T. InColumn a laws E T t m c.args.additions c.args.before c.args.table.now m c.args.additions c.low_row.result c.owner_of-owner.result)
           m.rows m.columns c.args.shape.edges c.args.shape.triangles c.requires.ready.rows c.requires.ready.columns
-          (in_column_none a laws c.args.shape.edges c.args.shape.triangles t m c.args.additions c.args.before c.args.table.now c.low_row.result c.owner-of-owner.result
-          c.requires.ready c.requires.pivots c.low_row.ensures c.owner-of-owner.ensures),
+          (in_column_none a laws c.args.shape.edges c.args.shape.triangles t m c.args.additions c.args.before c.args.table.now c.low_row.result c.owner_of-owner.result
+          c.requires.ready c.requires.pivots c.low_row.ensures c.owner_of-owner.ensures),
       refl,
       refl,
     )
 
-pub returns-in-err-add-multiple : goal.returns-in-err-add-multiple
-returns-in-err-add-multiple g c =
+pub returns-in_err-add_multiple : goal.returns-in_err-add_multiple
+returns-in_err-add_multiple g c =
     let a = g.F.Field.arithmetic c.args.field.now in
     let laws = g.met.F.Field.laws c.args.field.now in
     let m = g.S.Grid.holds c.args.store.now in
     let n = g.S.Grid.holds c.loop-owner.store in
-    let new = g.S.Grid.holds c.add-multiple.new.self in
+    let new = g.S.Grid.holds c.add_multiple.new.self in
     let t = g.S.Store.terms c.args.store.now in
     let E = c.args.shape.edges in
     let T = c.args.shape.triangles in
     let h = c.loop-owner.invariant.0 E T c.requires.ready.rows c.requires.ready.columns in
-    let made = c.add-multiple.ensures in
+    let made = c.add_multiple.ensures in
     let ps = adding a c.quotient-factor.result c.loop-owner.owner (c.args.before + 1) n.at n.rows in
-    let p = err_from_is_err_and c.from-residual.result c.from-residual.ensures.1 in
+    let p = err_from_is_err_and c.from_residual.result c.from_residual.ensures.1 in
     record {
       settles = subst (Settles a E T t m c.args.additions c.args.before c.args.table.now new) (sym p.1)
           (in_column_stops a laws E T t m c.args.additions c.args.before c.args.table.now c.requires.inside.0 n c.loop-owner.additions c.loop-owner.row c.loop-owner.owner h c.loop-owner-test.true
-          new c.quotient-factor.result c.add-multiple.result
+          new c.quotient-factor.result c.add_multiple.result
           (record {
             outside = g.S.Grid.outside c.loop-owner.store;
             is_factor = c.quotient-factor.ensures;
             answer = made.answer ∙ ap (λ u. puts_outcome u n ps) c.loop-owner.invariant.1;
             after = made.after ∙ ap (λ u. puts_after u n ps) c.loop-owner.invariant.1;
-          }) p.0 (c.in-err-add-multiple.was ∙ ap Err (sym p.2)));
+          }) p.0 (c.in_err-add_multiple.was ∙ ap Err (sym p.2)));
       terms = made.terms ∙ c.loop-owner.invariant.1;
       backing = made.backing ∙ c.loop-owner.invariant.2;
     }
 
-pub overflow-add-additions : goal.overflow-add-additions
-overflow-add-additions g c =
+pub overflow_add-additions : goal.overflow_add-additions
+overflow_add-additions g c =
     let a = g.F.Field.arithmetic c.args.field.now in
     let laws = g.met.F.Field.laws c.args.field.now in
     let E = c.args.shape.edges in
@@ -68,8 +68,8 @@ overflow-add-additions g c =
           (g.S.Grid.holds c.loop-owner.store) c.loop-owner.additions c.loop-owner.row c.loop-owner.owner h c.loop-owner-test.true,
     )
 
-pub overflow-sub-row : goal.overflow-sub-row
-overflow-sub-row g c =
+pub overflow_sub-row : goal.overflow_sub-row
+overflow_sub-row g c =
     let a = g.F.Field.arithmetic c.args.field.now in
     let laws = g.met.F.Field.laws c.args.field.now in
     let E = c.args.shape.edges in
@@ -78,14 +78,14 @@ overflow-sub-row g c =
     in_column_row a laws E T (g.S.Store.terms c.args.store.now) (g.S.Grid.holds c.args.store.now) c.args.additions c.args.before c.args.table.now c.requires.inside.0
     (g.S.Grid.holds c.loop-owner.store) c.loop-owner.additions c.loop-owner.row c.loop-owner.owner h c.loop-owner-test.true
 
-pub owner-of-owner-requires-in-loop-owner : goal.owner-of-owner-requires-in-loop-owner
-owner-of-owner-requires-in-loop-owner g c =
+pub owner_of-owner-requires-in-loop-owner : goal.owner_of-owner-requires-in-loop-owner
+owner_of-owner-requires-in-loop-owner g c =
     let E = c.args.shape.edges in
     let h = c.loop-owner.invariant.0 E c.args.shape.triangles c.requires.ready.rows c.requires.ready.columns in
     omega (
       arith,
       c.low-row-in-loop-owner.ensures,
-      low_most (g.S.Grid.holds c.add-multiple.new.self).at (c.loop-owner.row - 1) (c.args.before + 1),
+      low_most (g.S.Grid.holds c.add_multiple.new.self).at (c.loop-owner.row - 1) (c.args.before + 1),
       h.is_low,
       low_most (g.S.Grid.holds c.loop-owner.store).at E (c.args.before + 1),
       c.requires.pivots.long,
@@ -101,7 +101,7 @@ loop-owner-smaller g c =
     omega (
       arith,
       c.low-row-in-loop-owner.ensures,
-      low_most (g.S.Grid.holds c.add-multiple.new.self).at (c.loop-owner.row - 1) (c.args.before + 1),
+      low_most (g.S.Grid.holds c.add_multiple.new.self).at (c.loop-owner.row - 1) (c.args.before + 1),
       in_column_row a laws E T (g.S.Store.terms c.args.store.now) (g.S.Grid.holds c.args.store.now) c.args.additions c.args.before c.args.table.now c.requires.inside.0
           (g.S.Grid.holds c.loop-owner.store) c.loop-owner.additions c.loop-owner.row c.loop-owner.owner h c.loop-owner-test.true,
     )
@@ -112,23 +112,23 @@ loop-owner-preserved g c =
     let laws = g.met.F.Field.laws c.args.field.now in
     let m = g.S.Grid.holds c.args.store.now in
     let n = g.S.Grid.holds c.loop-owner.store in
-    let new = g.S.Grid.holds c.add-multiple.new.self in
+    let new = g.S.Grid.holds c.add_multiple.new.self in
     let t = g.S.Store.terms c.args.store.now in
     let E = c.args.shape.edges in
     let T = c.args.shape.triangles in
     let h = c.loop-owner.invariant.0 E T c.requires.ready.rows c.requires.ready.columns in
-    let made = c.add-multiple.ensures in
+    let made = c.add_multiple.ensures in
     let ps = adding a c.quotient-factor.result c.loop-owner.owner (c.args.before + 1) n.at n.rows in (
-      of_shape (λ E T. InColumn a laws E T t m c.args.additions c.args.before c.args.table.now new (c.loop-owner.additions + 1) c.low-row-in-loop-owner.result c.owner-of-owner-in-loop-owner.result)
+      of_shape (λ E T. InColumn a laws E T t m c.args.additions c.args.before c.args.table.now new (c.loop-owner.additions + 1) c.low-row-in-loop-owner.result c.owner_of-owner-in-loop-owner.result)
           m.rows m.columns E T c.requires.ready.rows c.requires.ready.columns
           (in_column_more a laws E T t m c.args.additions c.args.before c.args.table.now c.requires.inside.0 n c.loop-owner.additions c.loop-owner.row c.loop-owner.owner h c.loop-owner-test.true
-          new c.quotient-factor.result c.add-multiple.result
+          new c.quotient-factor.result c.add_multiple.result
           (record {
             outside = g.S.Grid.outside c.loop-owner.store;
             is_factor = c.quotient-factor.ensures;
             answer = made.answer ∙ ap (λ u. puts_outcome u n ps) c.loop-owner.invariant.1;
             after = made.after ∙ ap (λ u. puts_after u n ps) c.loop-owner.invariant.1;
-          }) tt c.in-ok-add-multiple.was c.low-row-in-loop-owner.result c.owner-of-owner-in-loop-owner.result c.low-row-in-loop-owner.ensures c.owner-of-owner-in-loop-owner.ensures),
+          }) tt c.in_ok-add_multiple.was c.low-row-in-loop-owner.result c.owner_of-owner-in-loop-owner.result c.low-row-in-loop-owner.ensures c.owner_of-owner-in-loop-owner.ensures),
       made.terms ∙ c.loop-owner.invariant.1,
       made.backing ∙ c.loop-owner.invariant.2,
     )

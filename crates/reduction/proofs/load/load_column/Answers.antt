@@ -10,64 +10,64 @@ use Rattle.homology.specs.Reduction.{column_puts}
 use Rattle.reduction.proofs.Turns.{leads_run, leads_run_refused, column_whole}
 use Rattle.reduction.proofs.load.load_column.Goals as goal
 
-pub returns-in-err-load-codes : goal.returns-in-err-load-codes
-returns-in-err-load-codes g c =
+pub returns-in_err-load_codes : goal.returns-in_err-load_codes
+returns-in_err-load_codes g c =
     let a = g.F.Field.arithmetic c.args.field.now in
     let start = g.G.Grid.holds c.args.start.now in
     let t = g.S.Store.terms c.args.store.now in
     let m = g.S.Grid.holds c.args.store.now in
-    let new = g.S.Grid.holds c.load-codes.new.store in
+    let new = g.S.Grid.holds c.load_codes.new.store in
     let k = c.args.column in
     let ps = column_puts c.args.shape.edges (codes_of a start) k in
     let qs = cond (leb k c.args.shape.triangles) (put_at (c.args.shape.edges + k) k 1 ∷ []) [] in
     let whole = column_whole a start c.args.shape.edges c.args.shape.triangles k c.requires.shape.0 c.requires.shape.1 c.requires.small.2 c.requires.small.3 in
-    let x = err_from_is_err_and c.from-residual.result c.from-residual.ensures.1 in
-    let made = c.load-codes.ensures in
-    let e = leads_run_refused t m m new _ ps qs c.load-codes.result c.from-residual.result c.in-err-load-codes.field-0.0 x.0 (leads_start t m _ (ps ++ qs) whole)
-    (record { answer = made.answer; after = made.after }) c.in-err-load-codes.was x.1 x.2 in
+    let x = err_from_is_err_and c.from_residual.result c.from_residual.ensures.1 in
+    let made = c.load_codes.ensures in
+    let e = leads_run_refused t m m new _ ps qs c.load_codes.result c.from_residual.result c.in_err-load_codes.field-0.0 x.0 (leads_start t m _ (ps ++ qs) whole)
+    (record { answer = made.answer; after = made.after }) c.in_err-load_codes.was x.1 x.2 in
     record { answer = e.answer; after = e.after; terms = made.terms; backing = made.backing }
 
-pub returns-in-err-put : goal.returns-in-err-put
-returns-in-err-put g c =
+pub returns-in_err-put : goal.returns-in_err-put
+returns-in_err-put g c =
     let a = g.F.Field.arithmetic c.args.field.now in
     let start = g.G.Grid.holds c.args.start.now in
     let t = g.S.Store.terms c.args.store.now in
     let m = g.S.Grid.holds c.args.store.now in
-    let n = g.S.Grid.holds c.load-codes.new.store in
+    let n = g.S.Grid.holds c.load_codes.new.store in
     let new = g.S.Grid.holds c.put.new.self in
     let k = c.args.column in
     let p = put_at (c.args.shape.edges + k) k 1 in
     let ps = column_puts c.args.shape.edges (codes_of a start) k in
     let qs = cond (leb k c.args.shape.triangles) (p ∷ []) [] in
     let whole = column_whole a start c.args.shape.edges c.args.shape.triangles k c.requires.shape.0 c.requires.shape.1 c.requires.small.2 c.requires.small.3 in
-    let x = err_from_is_err_and c.from-residual-in-err-put.result c.from-residual-in-err-put.ensures.1 in
-    let made = c.load-codes.ensures in
+    let x = err_from_is_err_and c.from_residual-in_err-put.result c.from_residual-in_err-put.ensures.1 in
+    let made = c.load_codes.ensures in
     let put = c.put.ensures in
-    let h = leads_run t m m n _ ps qs c.load-codes.result tt (leads_start t m _ (ps ++ qs) whole) (record { answer = made.answer; after = made.after }) c.in-ok-load-codes.was in
-    let e = leads_refused t m n new _ p [] c.put.result c.from-residual-in-err-put.result c.in-err-put.field-0.0 x.0
+    let h = leads_run t m m n _ ps qs c.load_codes.result tt (leads_start t m _ (ps ++ qs) whole) (record { answer = made.answer; after = made.after }) c.in_ok-load_codes.was in
+    let e = leads_refused t m n new _ p [] c.put.result c.from_residual-in_err-put.result c.in_err-put.field-0.0 x.0
     (leads_by t m n _ qs (p ∷ []) (cond-true _ _ _ (le-leb _ _ c.if-column-shape.true)) h)
-    (put.answer ∙ ap (λ u. put_outcome u n p) made.terms) (put.after ∙ ap (λ u. put_after u n p) made.terms) c.in-err-put.was x.1 x.2 in
+    (put.answer ∙ ap (λ u. put_outcome u n p) made.terms) (put.after ∙ ap (λ u. put_after u n p) made.terms) c.in_err-put.was x.1 x.2 in
     record { answer = e.answer; after = e.after; terms = put.terms ∙ made.terms; backing = put.backing ∙ made.backing }
 
-pub returns-in-ok-put : goal.returns-in-ok-put
-returns-in-ok-put g c =
+pub returns-in_ok-put : goal.returns-in_ok-put
+returns-in_ok-put g c =
     let a = g.F.Field.arithmetic c.args.field.now in
     let start = g.G.Grid.holds c.args.start.now in
     let t = g.S.Store.terms c.args.store.now in
     let m = g.S.Grid.holds c.args.store.now in
-    let n = g.S.Grid.holds c.load-codes.new.store in
+    let n = g.S.Grid.holds c.load_codes.new.store in
     let new = g.S.Grid.holds c.put.new.self in
     let k = c.args.column in
     let p = put_at (c.args.shape.edges + k) k 1 in
     let ps = column_puts c.args.shape.edges (codes_of a start) k in
     let qs = cond (leb k c.args.shape.triangles) (p ∷ []) [] in
     let whole = column_whole a start c.args.shape.edges c.args.shape.triangles k c.requires.shape.0 c.requires.shape.1 c.requires.small.2 c.requires.small.3 in
-    let made = c.load-codes.ensures in
+    let made = c.load_codes.ensures in
     let put = c.put.ensures in
-    let h = leads_run t m m n _ ps qs c.load-codes.result tt (leads_start t m _ (ps ++ qs) whole) (record { answer = made.answer; after = made.after }) c.in-ok-load-codes.was in
+    let h = leads_run t m m n _ ps qs c.load_codes.result tt (leads_start t m _ (ps ++ qs) whole) (record { answer = made.answer; after = made.after }) c.in_ok-load_codes.was in
     let e = leads_end t m new _ [] (leads_put t m n new _ p [] c.put.result tt
     (leads_by t m n _ qs (p ∷ []) (cond-true _ _ _ (le-leb _ _ c.if-column-shape.true)) h)
-    (put.answer ∙ ap (λ u. put_outcome u n p) made.terms) (put.after ∙ ap (λ u. put_after u n p) made.terms) c.in-ok-put.was) refl in
+    (put.answer ∙ ap (λ u. put_outcome u n p) made.terms) (put.after ∙ ap (λ u. put_after u n p) made.terms) c.in_ok-put.was) refl in
     record { answer = e.answer; after = e.after; terms = put.terms ∙ made.terms; backing = put.backing ∙ made.backing }
 
 pub returns-else-column-shape : goal.returns-else-column-shape
@@ -76,12 +76,12 @@ returns-else-column-shape g c =
     let start = g.G.Grid.holds c.args.start.now in
     let t = g.S.Store.terms c.args.store.now in
     let m = g.S.Grid.holds c.args.store.now in
-    let n = g.S.Grid.holds c.load-codes.new.store in
+    let n = g.S.Grid.holds c.load_codes.new.store in
     let k = c.args.column in
     let ps = column_puts c.args.shape.edges (codes_of a start) k in
     let qs = cond (leb k c.args.shape.triangles) (put_at (c.args.shape.edges + k) k 1 ∷ []) [] in
     let whole = column_whole a start c.args.shape.edges c.args.shape.triangles k c.requires.shape.0 c.requires.shape.1 c.requires.small.2 c.requires.small.3 in
-    let made = c.load-codes.ensures in
-    let h = leads_run t m m n _ ps qs c.load-codes.result tt (leads_start t m _ (ps ++ qs) whole) (record { answer = made.answer; after = made.after }) c.in-ok-load-codes.was in
+    let made = c.load_codes.ensures in
+    let h = leads_run t m m n _ ps qs c.load_codes.result tt (leads_start t m _ (ps ++ qs) whole) (record { answer = made.answer; after = made.after }) c.in_ok-load_codes.was in
     let e = leads_end t m n _ qs h (cond-false _ _ _ (lt-leb _ _ c.if-column-shape.false)) in
     record { answer = e.answer; after = e.after; terms = made.terms; backing = made.backing }

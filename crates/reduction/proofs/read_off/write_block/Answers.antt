@@ -8,8 +8,8 @@ use Rattle.reduction.proofs.read_off.write_block.Goals as goal
 pub loop-before-init : goal.loop-before-init
 loop-before-init g c = refl
 
-pub block-value-requires : goal.block-value-requires
-block-value-requires g c =
+pub block_value-requires : goal.block_value-requires
+block_value-requires g c =
     let a = g.F.Field.arithmetic c.args.field.now in
     let N = (g.G.Grid.holds c.args.reduced.now).at in
     let e = c.loop-before.before in
@@ -30,8 +30,8 @@ loop-before-preserved g c =
     let T = c.args.shape.triangles in
     let e = c.loop-before.before in
     let old = c.args.codes.now in
-    ap (λ xs. set xs e c.block-value.result) (c.loop-before.invariant ∙ ap (λ xs. xs ++ drop e old) (listed_same e (values a E T N e) (values a E T N (e + 1)) (λ i l m. sym (values_before a laws E T N e i m))))
-    ∙ listed_more e (values a E T N (e + 1)) old c.block-value.result (omega (arith, c.requires.inside.0)) c.block-value.ensures
+    ap (λ xs. set xs e c.block_value.result) (c.loop-before.invariant ∙ ap (λ xs. xs ++ drop e old) (listed_same e (values a E T N e) (values a E T N (e + 1)) (λ i l m. sym (values_before a laws E T N e i m))))
+    ∙ listed_more e (values a E T N (e + 1)) old c.block_value.result (omega (arith, c.requires.inside.0)) c.block_value.ensures
 
 pub returns : goal.returns
 returns g c =

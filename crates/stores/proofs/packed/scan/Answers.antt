@@ -4,33 +4,33 @@ use Rattle.stores.proofs.Widths.{byte_of, code_of, bits_pos, bits_le, bytes_unti
 use Rattle.stores.proofs.packed.scan.Goals as goal
 
 pub bounds-bytes-place : goal.bounds-bytes-place
-bounds-bytes-place c = let w = c.args.width in simp c.per-byte-per.ensures (byte_of w.bits c.loop-place.place _ w.whole (omega (arith, c.requires.0)))
+bounds-bytes-place c = let w = c.args.width in simp c.per_byte-per.ensures (byte_of w.bits c.loop-place.place _ w.whole (omega (arith, c.requires.0)))
 
-pub first-nonzero-requires : goal.first-nonzero-requires
-first-nonzero-requires c =
+pub first_nonzero-requires : goal.first_nonzero-requires
+first_nonzero-requires c =
     let w = c.args.width in
-    bytes_until w.bits c.per-byte-per.result w.whole c.per-byte-per.ensures c.loop-place.place c.args.end _ c.loop-place-test.true c.requires.0
+    bytes_until w.bits c.per_byte-per.result w.whole c.per_byte-per.ensures c.loop-place.place c.args.end _ c.loop-place-test.true c.requires.0
 
-pub overflow-mul-place : goal.overflow-mul-place
-overflow-mul-place c =
+pub overflow_mul-place : goal.overflow_mul-place
+overflow_mul-place c =
     let w = c.args.width in
-    omega (arith, c.requires.1, places_until w.bits c.per-byte-per.result w.whole c.per-byte-per.ensures c.args.end c.first_nonzero_of.result (omega arith) c.first_nonzero_of.ensures.within)
+    omega (arith, c.requires.1, places_until w.bits c.per_byte-per.result w.whole c.per_byte-per.ensures c.args.end c.first_nonzero_of.result (omega arith) c.first_nonzero_of.ensures.within)
 
 pub loop-place-smaller-then-byte-eq0 : goal.loop-place-smaller-then-byte-eq0
 loop-place-smaller-then-byte-eq0 c =
     let w = c.args.width in
     let e = c.first_nonzero_of.ensures.scanned in
-    let p = passed_bytes w.bits c.per-byte-per.result w.whole c.per-byte-per.ensures c.args.bytes.now c.args.start c.loop-place.place c.first_nonzero_of.result c.if-byte-eq0.true e.from e.passed c.loop-place.invariant.1 in
+    let p = passed_bytes w.bits c.per_byte-per.result w.whole c.per_byte-per.ensures c.args.bytes.now c.args.start c.loop-place.place c.first_nonzero_of.result c.if-byte-eq0.true e.from e.passed c.loop-place.invariant.1 in
     omega (arith, p.0)
 
 pub loop-place-preserved-then-byte-eq0 : goal.loop-place-preserved-then-byte-eq0
 loop-place-preserved-then-byte-eq0 c =
     let w = c.args.width in
     let e = c.first_nonzero_of.ensures.scanned in
-    let p = passed_bytes w.bits c.per-byte-per.result w.whole c.per-byte-per.ensures c.args.bytes.now c.args.start c.loop-place.place c.first_nonzero_of.result c.if-byte-eq0.true e.from e.passed c.loop-place.invariant.1 in
+    let p = passed_bytes w.bits c.per_byte-per.result w.whole c.per_byte-per.ensures c.args.bytes.now c.args.start c.loop-place.place c.first_nonzero_of.result c.if-byte-eq0.true e.from e.passed c.loop-place.invariant.1 in
     (omega (arith, p.0, c.loop-place.invariant.0), p.1)
 
-pub code-of-requires : goal.code-of-requires
-code-of-requires c =
+pub code_of-requires : goal.code_of-requires
+code_of-requires c =
     let w = c.args.width in
-    simp (c.per-byte-per.ensures, c.bits.ensures) (omega (arith, code_of w.bits c.loop-place.place w.whole, bits_pos w.bits w.whole), bits_le w.bits w.whole)
+    simp (c.per_byte-per.ensures, c.bits.ensures) (omega (arith, code_of w.bits c.loop-place.place w.whole, bits_pos w.bits w.whole), bits_le w.bits w.whole)

@@ -4,8 +4,8 @@ use Rattle.std.proofs.lemmas.Nat.{one_shl}
 use Rattle.stores.proofs.Codes.{replaced_lt}
 use Rattle.stores.proofs.packed.with_code.Goals as goal
 
-pub overflow-cast-result-2 : goal.overflow-cast-result-2
-overflow-cast-result-2 c =
+pub overflow_cast-result-2 : goal.overflow_cast-result-2
+overflow_cast-result-2 c =
     let e = c.args.bits * c.args.k in
     let b = c.args.bits in
     let room : e + b ≤ 8 = c.requires.0 in

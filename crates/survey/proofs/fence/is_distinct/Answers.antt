@@ -15,9 +15,9 @@ within n met x t few long = omega (arith, leb-true x n (and_parts _ _ (and_parts
 pub loop-x-init : goal.loop-x-init
 loop-x-init c = (refl, ap (λ (m : Sensors). distinct c.args.count m c.args.fence.now) (fun_ext (λ y. getD_one_value 65 y false)))
 
-pub returns-then-not-is-new : goal.returns-then-not-is-new
-returns-then-not-is-new c =
-    sym (distinct_met _ (λ y. get_or c.loop-x.met y false) c.args.fence.now _ false c.loop-x-test.true c.if-not-is-new.ensures) ∙ c.loop-x.invariant.1
+pub returns-then-not-is_new : goal.returns-then-not-is_new
+returns-then-not-is_new c =
+    sym (distinct_met _ (λ y. get_or c.loop-x.met y false) c.args.fence.now _ false c.loop-x-test.true c.if-not-is_new.ensures) ∙ c.loop-x.invariant.1
 
 pub loop-x-preserved : goal.loop-x-preserved
 loop-x-preserved c =
@@ -26,10 +26,10 @@ loop-x-preserved c =
     let fence = c.args.fence.now in
     let i = c.loop-x.x-index in
     let x = get_or fence i 0 in
-    let few : x < length met = within n met x (sym c.if-not-is-new.ensures) c.requires c.loop-x.invariant.0 in (
+    let few : x < length met = within n met x (sym c.if-not-is_new.ensures) c.requires c.loop-x.invariant.0 in (
       length-set met x true ∙ c.loop-x.invariant.0,
       ap (λ (m : Sensors). distinct n m (drop (i + 1) fence)) (fun_ext (λ y. getD_set_true met x y few))
-          ∙ sym (distinct_met n (λ y. get_or met y false) fence i true c.loop-x-test.true c.if-not-is-new.ensures) ∙ c.loop-x.invariant.1,
+          ∙ sym (distinct_met n (λ y. get_or met y false) fence i true c.loop-x-test.true c.if-not-is_new.ensures) ∙ c.loop-x.invariant.1,
     )
 
 pub returns : goal.returns

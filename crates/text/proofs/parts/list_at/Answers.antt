@@ -32,8 +32,8 @@ loop-value-preserved c =
 
 pub returns-in-Ok : goal.returns-in-Ok
 returns-in-Ok c =
-    list_read _ c.args.text.now c.loop-value.out c.loop-value.count c.loop-value.at (Ok c.in-Ok.end) c.in-default.ensures.value c.loop-value.invariant.3 c.in-Ok.ensures.answer c.in-Ok.ensures.within
+    list_read _ c.args.text.now c.loop-value.out c.loop-value.count c.loop-value.at (Ok c.in-Ok.end) c.in_default.ensures.value c.loop-value.invariant.3 c.in-Ok.ensures.answer c.in-Ok.ensures.within
 
 pub returns-in-Err : goal.returns-in-Err
 returns-in-Err c =
-    list_read _ c.args.text.now c.loop-value.out c.loop-value.count c.loop-value.at (Err c.in-Err.refusal) c.in-default.ensures.value c.loop-value.invariant.3 c.in-Err.ensures.answer c.in-Err.ensures.within
+    list_read _ c.args.text.now c.loop-value.out c.loop-value.count c.loop-value.at (Err c.in-Err.refusal) c.in_default.ensures.value c.loop-value.invariant.3 c.in-Err.ensures.answer c.in-Err.ensures.within

@@ -10,36 +10,36 @@ use Rattle.text.proofs.read.read.Goals as goal
 pub returns-then-count-gt64 : goal.returns-then-count-gt64
 returns-then-count-gt64 c =
     let text = c.args.text.now in
-    let fence = c.in-ok-count.ensures in
+    let fence = c.in_ok-count.ensures in
     record {
-      answer = sym (reading_is text c.in-ok-neighbours.neighbours _ c.in-ok-neighbours.ensures.0 c.sensor_lines_of.new.neighbours _ c.in-ok-at.ensures (c.in-ok-count.count, c.in-ok-count.at) c.fence_line_of.new.out fence
-          ∙ ap (λ o. and_then o (with_rest (drop c.in-ok-count.at text))) (judged_long c.sensor_lines_of.new.neighbours fence.0 (omega (arith, fence.2))));
+      answer = sym (reading_is text c.in_ok-neighbours.neighbours _ c.in_ok-neighbours.ensures.0 c.sensor_lines_of.new.neighbours _ c.in_ok-at.ensures (c.in_ok-count.count, c.in_ok-count.at) c.fence_line_of.new.out fence
+          ∙ ap (λ o. and_then o (with_rest (drop c.in_ok-count.at text))) (judged_long c.sensor_lines_of.new.neighbours fence.0 (omega (arith, fence.2))));
       within = tt;
     }
 
-pub returns-in-err-survey : goal.returns-in-err-survey
-returns-in-err-survey c =
+pub returns-in_err-survey : goal.returns-in_err-survey
+returns-in_err-survey c =
     let text = c.args.text.now in
-    let fence = c.in-ok-count.ensures in
+    let fence = c.in_ok-count.ensures in
     let new = c.sensor_lines_of.new.neighbours in
-    let count : ℕ × ℕ = (c.in-ok-count.count, c.in-ok-count.at) in
-    let p = err_from_is_err_and c.from-residual-in-err-survey.result c.from-residual-in-err-survey.ensures.1 in
+    let count : ℕ × ℕ = (c.in_ok-count.count, c.in_ok-count.at) in
+    let p = err_from_is_err_and c.from_residual-in_err-survey.result c.from_residual-in_err-survey.ensures.1 in
     let front = fence_front text _ count c.fence_line_of.new.out fence (search rules) in
     rw (p.1, p.2) record {
-      answer = sym (reading_is text c.in-ok-neighbours.neighbours _ c.in-ok-neighbours.ensures.0 new _ c.in-ok-at.ensures count c.fence_line_of.new.out fence
-          ∙ ap (λ o. and_then o (with_rest (drop c.in-ok-count.at text))) (ap (λ (l : List ℕ). judged (drawn new l)) (sym front) ∙ sym c.in-err-survey.ensures));
+      answer = sym (reading_is text c.in_ok-neighbours.neighbours _ c.in_ok-neighbours.ensures.0 new _ c.in_ok-at.ensures count c.fence_line_of.new.out fence
+          ∙ ap (λ o. and_then o (with_rest (drop c.in_ok-count.at text))) (ap (λ (l : List ℕ). judged (drawn new l)) (sym front) ∙ sym c.in_err-survey.ensures));
       within = tt;
     }
 
 pub returns : goal.returns
 returns c =
     let text = c.args.text.now in
-    let fence = c.in-ok-count.ensures in
+    let fence = c.in_ok-count.ensures in
     let new = c.sensor_lines_of.new.neighbours in
-    let count : ℕ × ℕ = (c.in-ok-count.count, c.in-ok-count.at) in
+    let count : ℕ × ℕ = (c.in_ok-count.count, c.in_ok-count.at) in
     let front = fence_front text _ count c.fence_line_of.new.out fence (search rules) in
     record {
-      answer = sym (reading_is text c.in-ok-neighbours.neighbours _ c.in-ok-neighbours.ensures.0 new _ c.in-ok-at.ensures count c.fence_line_of.new.out fence
-          ∙ ap (λ o. and_then o (with_rest (drop c.in-ok-count.at text))) (ap (λ (l : List ℕ). judged (drawn new l)) (sym front) ∙ sym c.in-ok-survey.ensures));
+      answer = sym (reading_is text c.in_ok-neighbours.neighbours _ c.in_ok-neighbours.ensures.0 new _ c.in_ok-at.ensures count c.fence_line_of.new.out fence
+          ∙ ap (λ o. and_then o (with_rest (drop c.in_ok-count.at text))) (ap (λ (l : List ℕ). judged (drawn new l)) (sym front) ∙ sym c.in_ok-survey.ensures));
       within = fence.3;
     }

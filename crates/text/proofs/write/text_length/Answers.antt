@@ -4,8 +4,8 @@ use Rattle.survey.specs.Plans.{survey_of}
 use Rattle.survey.proofs.Fences.{length_distinct}
 use Rattle.text.proofs.write.text_length.Goals as goal
 
-pub overflow-add-result-3 : goal.overflow-add-result-3
-overflow-add-result-3 c =
+pub overflow_add-result-3 : goal.overflow_add-result-3
+overflow_add-result-3 c =
     let s = survey_of c.args.survey.now in
     let valid = c.count-count.ensures.rules in
     omega (arith, valid.most, valid.few_links, length_distinct s.count s.fence valid.different, ap length c.fence.ensures)

@@ -10,8 +10,8 @@ use Rattle.text.proofs.write.write_columns.Goals as goal
 pub loop-v-init : goal.loop-v-init
 loop-v-init c = progress_none _ _ _ _ refl
 
-pub write-number-requires : goal.write-number-requires
-write-number-requires c =
+pub write_number-requires : goal.write_number-requires
+write_number-requires c =
     let list = c.args.list.now in
     let i = c.loop-v.v-index in (
       progress_fits (column (get_or list i 0)) _ c.loop-v.invariant (at_drop_more (gather column) list i 0 c.loop-v-test.true) c.requires.1,
@@ -22,7 +22,7 @@ pub loop-v-preserved : goal.loop-v-preserved
 loop-v-preserved c =
     let list = c.args.list.now in
     let i = c.loop-v.v-index in
-    progress_more (column (get_or list i 0)) _ c.loop-v.invariant (at_drop_more (gather column) list i 0 c.loop-v-test.true) c.write-number.ensures refl
+    progress_more (column (get_or list i 0)) _ c.loop-v.invariant (at_drop_more (gather column) list i 0 c.loop-v-test.true) c.write_number.ensures refl
 
 pub returns : goal.returns
 returns c =

@@ -15,20 +15,20 @@ listed : (out : List ℕ) (at : ℕ) (fence new : List ℕ) (place : ℕ) → ne
     → place ≡ at + 1 + length (gather column fence) → Progress out at (fence_text fence) new place list_end
 listed out at fence new place e n = progress_more (gather column fence) list_end (marked out at fence) refl e n
 
-pub write-columns-end-requires : goal.write-columns-end-requires
-write-columns-end-requires c =
+pub write_columns-end-requires : goal.write_columns-end-requires
+write_columns-end-requires c =
     let fence = c.args.fence.now in
     (c.requires.0, progress_fits (gather column fence) list_end (marked c.args.out.now c.args.at fence) refl c.requires.1)
 
-pub write-list-end-requires : goal.write-list-end-requires
-write-list-end-requires c =
-    let wrote = c.write-columns-end.ensures in
+pub write_list_end-requires : goal.write_list_end-requires
+write_list_end-requires c =
+    let wrote = c.write_columns-end.ensures in
     progress_fits list_end [] (listed c.args.out.now c.args.at c.args.fence.now _ _ wrote.after wrote.place) refl c.requires.1
 
 pub returns : goal.returns
 returns c =
-    let wrote = c.write-columns-end.ensures in
-    let ended = c.write-list-end.ensures in
+    let wrote = c.write_columns-end.ensures in
+    let ended = c.write_list_end.ensures in
     let list = listed c.args.out.now c.args.at c.args.fence.now _ _ wrote.after wrote.place in
     let done = progress_all (progress_more list_end [] list refl ended.after ended.place) refl in
     record { after = done.0; place = done.1 }

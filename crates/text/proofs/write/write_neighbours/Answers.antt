@@ -12,8 +12,8 @@ loop-y-init c =
     let s = survey_of c.args.survey.now in
     progress_none _ _ _ _ (ap (columns_among s c.args.x) (below_sensors s _ (omega arith)))
 
-pub write-number-requires : goal.write-number-requires
-write-number-requires c =
+pub write_number-requires : goal.write_number-requires
+write_number-requires c =
     let s = survey_of c.args.survey.now in
     let x = c.args.x in
     let y = c.loop-y.y in (
@@ -28,7 +28,7 @@ loop-y-preserved c =
     let y = c.loop-y.y in
     let next = ap (columns_among s x) (below_more _ y c.loop-y-test.true) in
     elim c.if-linked.branch [
-      | then-linked w ↦ progress_more (column y) _ c.loop-y.invariant (next ∙ columns_linked s x y _ w.if-linked.ensures) (w.out-is ∙ w.write-number.ensures) w.place-is
+      | then-linked w ↦ progress_more (column y) _ c.loop-y.invariant (next ∙ columns_linked s x y _ w.if-linked.ensures) (w.out-is ∙ w.write_number.ensures) w.place-is
       | else-linked w ↦ progress_more [] _ c.loop-y.invariant (next ∙ columns_unlinked s x y _ w.if-linked.ensures) w.out-is (omega (arith, w.place-is))
     ]
 

@@ -19,23 +19,23 @@ listed : (s : Survey) (x : ℕ) (out : List ℕ) (at : ℕ) (head new : List ℕ
     → new ≡ sets head (at + 5) (neighbour_columns s x) → place ≡ at + 5 + length (neighbour_columns s x) → Progress out at (sensor_line_of s x) new place list_end
 listed s x out at head new place h e n = progress_more (neighbour_columns s x) list_end (headed s x out at head h) refl e n
 
-pub write-neighbours-end-requires : goal.write-neighbours-end-requires
-write-neighbours-end-requires c =
+pub write_neighbours-end-requires : goal.write_neighbours-end-requires
+write_neighbours-end-requires c =
     let s = survey_of c.args.survey.now in
     let x = c.args.x in
-    progress_fits (neighbour_columns s x) list_end (headed s x c.args.out.now c.args.at _ c.write-number.ensures) refl c.requires.1
+    progress_fits (neighbour_columns s x) list_end (headed s x c.args.out.now c.args.at _ c.write_number.ensures) refl c.requires.1
 
-pub write-list-end-requires : goal.write-list-end-requires
-write-list-end-requires c =
+pub write_list_end-requires : goal.write_list_end-requires
+write_list_end-requires c =
     let s = survey_of c.args.survey.now in
-    let wrote = c.write-neighbours-end.ensures in
-    progress_fits list_end [] (listed s c.args.x c.args.out.now c.args.at _ _ _ c.write-number.ensures wrote.after wrote.place) refl c.requires.1
+    let wrote = c.write_neighbours-end.ensures in
+    progress_fits list_end [] (listed s c.args.x c.args.out.now c.args.at _ _ _ c.write_number.ensures wrote.after wrote.place) refl c.requires.1
 
 pub returns : goal.returns
 returns c =
     let s = survey_of c.args.survey.now in
-    let wrote = c.write-neighbours-end.ensures in
-    let ended = c.write-list-end.ensures in
-    let list = listed s c.args.x c.args.out.now c.args.at _ _ _ c.write-number.ensures wrote.after wrote.place in
+    let wrote = c.write_neighbours-end.ensures in
+    let ended = c.write_list_end.ensures in
+    let list = listed s c.args.x c.args.out.now c.args.at _ _ _ c.write_number.ensures wrote.after wrote.place in
     let done = progress_all (progress_more list_end [] list refl ended.after ended.place) refl in
     record { after = done.0; place = done.1 }

@@ -12,8 +12,8 @@ loop-x-init c =
     let s = survey_of c.args.survey.now in
     progress_none _ _ _ _ (ap (gather (sensor_line_of s)) (below_sensors s _ (omega arith)))
 
-pub write-sensor-line-place-requires : goal.write-sensor-line-place-requires
-write-sensor-line-place-requires c =
+pub write_sensor_line-place-requires : goal.write_sensor_line-place-requires
+write_sensor_line-place-requires c =
     let s = survey_of c.args.survey.now in
     let x = c.loop-x.x in (
       omega (arith, c.count-x-end.ensures.rules.most),
@@ -24,7 +24,7 @@ pub loop-x-preserved : goal.loop-x-preserved
 loop-x-preserved c =
     let s = survey_of c.args.survey.now in
     let x = c.loop-x.x in
-    let wrote = c.write-sensor-line-place.ensures in
+    let wrote = c.write_sensor_line-place.ensures in
     progress_more (sensor_line_of s x) _ c.loop-x.invariant (ap (gather (sensor_line_of s)) (below_more _ x c.loop-x-test.true)) wrote.after wrote.place
 
 pub returns : goal.returns

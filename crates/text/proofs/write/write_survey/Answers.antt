@@ -8,19 +8,19 @@ use Rattle.text.proofs.Back.{reads_back, one_text}
 use Rattle.text.proofs.Lengths.{text_length_of as length-text}
 use Rattle.text.proofs.write.write_survey.Goals as goal
 
-pub returns-then-text-length-out : goal.returns-then-text-length-out
-returns-then-text-length-out c =
+pub returns-then-text_length-out : goal.returns-then-text_length-out
+returns-then-text_length-out c =
     let fits : text_length_of (survey_of c.args.survey.now) ≤ length c.args.out.now = omega arith in
     record {
-      answer = ap accepted c.write-text.ensures.place ∙ sym (cond-true _ _ _ (le-leb _ _ fits));
-      after = c.write-text.ensures.after ∙ sym (cond-true _ _ _ (le-leb _ _ fits));
+      answer = ap accepted c.write_text.ensures.place ∙ sym (cond-true _ _ _ (le-leb _ _ fits));
+      after = c.write_text.ensures.after ∙ sym (cond-true _ _ _ (le-leb _ _ fits));
       back = reads_back;
       one = one_text;
       long = length-text;
     }
 
-pub returns-else-text-length-out : goal.returns-else-text-length-out
-returns-else-text-length-out c =
+pub returns-else-text_length-out : goal.returns-else-text_length-out
+returns-else-text_length-out c =
     let short : length c.args.out.now < text_length_of (survey_of c.args.survey.now) = omega arith in
     record {
       answer = sym (cond-false _ _ _ (lt-leb _ _ short));

@@ -39,21 +39,21 @@ ended s fence out old new at place valid l p h n =
     let done = progress_all (progress_more (fence_text fence) [] p (sym (append-nil (fence_text fence))) h n) refl in
     (done.0 ∙ sets_front (text s) out (omega (arith, length-text s valid)), omega (arith, done.1, length-text s valid))
 
-pub write-sensor-lines-end-requires : goal.write-sensor-lines-end-requires
-write-sensor-lines-end-requires c =
+pub write_sensor_lines-end-requires : goal.write_sensor_lines-end-requires
+write_sensor_lines-end-requires c =
     let s = survey_of c.args.survey.now in
     let out = c.args.out.now in
-    let head = counted s out _ _ c.count.ensures.value c.write-number.ensures in
+    let head = counted s out _ _ c.count.ensures.value c.write_number.ensures in
     progress_fits (lines_text s) (fence_text s.fence) head refl (room s out c.count.ensures.rules c.requires)
 
-pub write-fence-line-requires : goal.write-fence-line-requires
-write-fence-line-requires c =
+pub write_fence_line-requires : goal.write_fence_line-requires
+write_fence_line-requires c =
     let s = survey_of c.args.survey.now in
     let fence = c.fence.result.now in
     let out = c.args.out.now in
     let valid = c.count.ensures.rules in
-    let wrote = c.write-sensor-lines-end.ensures in
-    let head = counted s out _ _ c.count.ensures.value c.write-number.ensures in
+    let wrote = c.write_sensor_lines-end.ensures in
+    let head = counted s out _ _ c.count.ensures.value c.write_number.ensures in
     let lines = lined s fence out _ _ _ c.fence.ensures head wrote.after wrote.place in
     (small s fence valid c.fence.ensures, progress_fits (fence_text fence) [] lines (sym (append-nil (fence_text fence))) (room s out valid c.requires))
 
@@ -62,9 +62,9 @@ returns c =
     let s = survey_of c.args.survey.now in
     let fence = c.fence.result.now in
     let out = c.args.out.now in
-    let wrote = c.write-sensor-lines-end.ensures in
-    let last = c.write-fence-line.ensures in
-    let head = counted s out _ _ c.count.ensures.value c.write-number.ensures in
+    let wrote = c.write_sensor_lines-end.ensures in
+    let last = c.write_fence_line.ensures in
+    let head = counted s out _ _ c.count.ensures.value c.write_number.ensures in
     let lines = lined s fence out _ _ _ c.fence.ensures head wrote.after wrote.place in
     let done = ended s fence out _ _ _ _ c.count.ensures.rules c.requires lines last.after last.place in
     record { after = done.0; place = done.1 }

@@ -7,5 +7,5 @@ use Rattle.complex.proofs.boundary_grid.BoundaryGrid.new.Goals as goal
 
 pub returns : goal.returns
 returns c =
-    let holds = ap₂ (λ es ts. starting_matrix (listed_system c.args.minus es ts c.args.fence.now)) c.usable-edges-edges.ensures c.usable-triangles-triangles.ensures in
+    let holds = ap₂ (λ es ts. starting_matrix (listed_system c.args.minus es ts c.args.fence.now)) c.usable_edges-edges.ensures c.usable_triangles-triangles.ensures in
     record { holds = holds; survey = of_surveys _ _ _ _ _ holds }

@@ -3,5 +3,5 @@ use Rattle.std.proofs.Common.{sym, arith}
 use Rattle.matrix.proofs.Counts.{count_empty}
 use Rattle.customer.proofs.square.Square.new.Goals as goal
 
-pub invariant-of-result : goal.invariant-of-result
-invariant-of-result c = (omega arith, (sym (count_empty _), tt))
+pub invariant_of-result : goal.invariant_of-result
+invariant_of-result c = (omega arith, (sym (count_empty _), tt))

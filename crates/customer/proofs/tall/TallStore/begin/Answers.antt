@@ -16,8 +16,8 @@ returns-then-rows-columns c =
     ]) in
     record { answer = sym o; after = sym (ap (λ x. left_by x (blank c.args.rows c.args.columns) (tall s.rows s.columns s.memory.codes.now)) o); terms = refl; backing = refl }
 
-pub invariant-of-self : goal.invariant-of-self
-invariant-of-self c = (
+pub invariant_of-self : goal.invariant_of-self
+invariant_of-self c = (
   omega (arith, c.if-rows-columns-2.false, c.clear.ensures.long),
   (tall_count c.args.rows c.args.columns _ c.clear.ensures.zero, tt),
 )

@@ -24,10 +24,10 @@ returns c =
     let f = c.args.self.now in
     let o : OddPrime f.p = record { least = f.least; most = f.most; prime = f.prime } in
     let within : c.args.a < f.p = c.if-a-self.false in
-    let x = c.extended-gcd-x.result.1 in
+    let x = c.extended_gcd-x.result.1 in
     let x_fits : SFits w32 x = search rules in
-    let r_fits : SFits w32 c.rem-euclid.result = search rules in
-    let reduced : c.rem-euclid.result ≡ int_rem_euclid x (pos f.p)
-    = simp (to_z-of_z w32 x x_fits, to_z_pos w32 f.p (omega arith)) at c.rem-euclid.ensures.value in
-    let found = remainder_found f.p c.args.a _ _ _ o (omega arith) within c.extended-gcd-x.ensures in
-    ap nat_abs (to_z-of_z w32 c.rem-euclid.result r_fits ∙ reduced ∙ found) ∙ sym (inside f.p (inverse_modulo f.p) c.args.a within)
+    let r_fits : SFits w32 c.rem_euclid.result = search rules in
+    let reduced : c.rem_euclid.result ≡ int_rem_euclid x (pos f.p)
+    = simp (to_z-of_z w32 x x_fits, to_z_pos w32 f.p (omega arith)) at c.rem_euclid.ensures.value in
+    let found = remainder_found f.p c.args.a _ _ _ o (omega arith) within c.extended_gcd-x.ensures in
+    ap nat_abs (to_z-of_z w32 c.rem_euclid.result r_fits ∙ reduced ∙ found) ∙ sym (inside f.p (inverse_modulo f.p) c.args.a within)

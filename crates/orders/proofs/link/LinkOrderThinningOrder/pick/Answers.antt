@@ -17,7 +17,7 @@ loop-x-preserved c =
     let key = degree (survey_of c.args.survey.now) in
     let p = set_of c.args.candidates.now in
     elim c.if-member.branch [
-      | then-member w ↦ best_turn key p _ _ true _ _ _ c.loop-x-test.true w.if-member.ensures (w.best-is ∙ w.fewer-links-best.ensures) c.loop-x.invariant
+      | then-member w ↦ best_turn key p _ _ true _ _ _ c.loop-x-test.true w.if-member.ensures (w.best-is ∙ w.fewer_links-best.ensures) c.loop-x.invariant
       | else-member w ↦ best_turn key p _ _ false _ _ _ c.loop-x-test.true w.if-member.ensures (w.best-is ∙ sym (lesser_none key c.loop-x.best)) c.loop-x.invariant
     ]
 

@@ -8,8 +8,8 @@ use Rattle.sparse.proofs.sparse.Sparse.insert.Goals as goal
 pub take-taken-requires : goal.take-taken-requires
 take-taken-requires c = let s = sound c.args.self.now.sound in record { free = take_free_to s; fresh = take_fresh_to s c.requires.room }
 
-pub overflow-cast-cell : goal.overflow-cast-cell
-overflow-cast-cell c = let s = sound c.args.self.now.sound in omega (arith, s.low, c.requires.place.row_to)
+pub overflow_cast-cell : goal.overflow_cast-cell
+overflow_cast-cell c = let s = sound c.args.self.now.sound in omega (arith, s.low, c.requires.place.row_to)
 
 pub edit-requires : goal.edit-requires
 edit-requires c =
@@ -17,8 +17,8 @@ edit-requires c =
     let k = taking s c.requires.room _ _ _ c.take-taken.ensures.link c.take-taken.ensures.free c.take-taken.ensures.fresh in
     record { column = (c.requires.place.column_from, in_heads s c.requires.place c.requires.spot); before = stands_to _ _ _ c.requires.spot.stands; link = (k.from, omega (arith, k.to, k.lent)) }
 
-pub invariant-of-self : goal.invariant-of-self
-invariant-of-self c =
+pub invariant_of-self : goal.invariant_of-self
+invariant_of-self c =
     let s = sound c.args.self.now.sound in
     let k = taking s c.requires.room _ _ _ c.take-taken.ensures.link c.take-taken.ensures.free c.take-taken.ensures.fresh in
     (λ n. n (insert_left s c.requires.place c.requires.spot _ _ _ c.requires.none c.requires.code k c.edit.ensures.cells c.edit.ensures.heads).is_sound, tt)

@@ -5,8 +5,8 @@ use Rattle.sparse.proofs.Sounds.{sound}
 use Rattle.sparse.proofs.Steps.{stands_to, in_heads, at_from, at_to, remove_left, remove_from, terms_by}
 use Rattle.sparse.proofs.sparse.Sparse.remove.Goals as goal
 
-pub cell-at-next-requires : goal.cell-at-next-requires
-cell-at-next-requires c = omega (arith, c.requires.there, c.requires.place.row_from)
+pub cell_at-next-requires : goal.cell_at-next-requires
+cell_at-next-requires c = omega (arith, c.requires.there, c.requires.place.row_from)
 
 pub edit-requires : goal.edit-requires
 edit-requires c =
@@ -17,19 +17,19 @@ edit-requires c =
       link = (at_from s c.requires.place c.requires.spot c.requires.there, at_to s c.requires.place c.requires.spot c.requires.there);
     }
 
-pub overflow-sub-self : goal.overflow-sub-self
-overflow-sub-self c =
+pub overflow_sub-self : goal.overflow_sub-self
+overflow_sub-self c =
     let s = sound c.args.self.now.sound in
     remove_from s c.requires.place c.requires.spot c.requires.there
-    (remove_left s c.requires.place c.requires.spot c.requires.there _ (ap (λ (x : Cell). x.next) c.cell-at-next.ensures) c.edit.ensures.cells c.edit.ensures.heads)
+    (remove_left s c.requires.place c.requires.spot c.requires.there _ (ap (λ (x : Cell). x.next) c.cell_at-next.ensures) c.edit.ensures.cells c.edit.ensures.heads)
 
-pub invariant-of-self : goal.invariant-of-self
-invariant-of-self c =
+pub invariant_of-self : goal.invariant_of-self
+invariant_of-self c =
     let s = sound c.args.self.now.sound in
-    (λ n. n (remove_left s c.requires.place c.requires.spot c.requires.there _ (ap (λ (x : Cell). x.next) c.cell-at-next.ensures) c.edit.ensures.cells c.edit.ensures.heads).is_sound, tt)
+    (λ n. n (remove_left s c.requires.place c.requires.spot c.requires.there _ (ap (λ (x : Cell). x.next) c.cell_at-next.ensures) c.edit.ensures.cells c.edit.ensures.heads).is_sound, tt)
 
 pub returns : goal.returns
 returns c =
     let s = sound c.args.self.now.sound in
-    let p = remove_left s c.requires.place c.requires.spot c.requires.there _ (ap (λ (x : Cell). x.next) c.cell-at-next.ensures) c.edit.ensures.cells c.edit.ensures.heads in
+    let p = remove_left s c.requires.place c.requires.spot c.requires.there _ (ap (λ (x : Cell). x.next) c.cell_at-next.ensures) c.edit.ensures.cells c.edit.ensures.heads in
     record { holds = p.holds; stays = record { rows = refl; columns = refl; terms = terms_by p.many p.wide; kept = p.kept } }

@@ -9,8 +9,8 @@ recode-requires c =
     let s = sound c.args.self.now.sound in
     (at_from s c.requires.place c.requires.spot c.requires.there, at_to s c.requires.place c.requires.spot c.requires.there)
 
-pub invariant-of-self : goal.invariant-of-self
-invariant-of-self c =
+pub invariant_of-self : goal.invariant_of-self
+invariant_of-self c =
     let s = sound c.args.self.now.sound in
     (λ n. n (replace_left s c.requires.place c.requires.spot c.requires.there c.requires.code c.recode.ensures.cells c.recode.ensures.heads).is_sound, tt)
 

@@ -9,8 +9,8 @@ seek-requires c =
     let s = sound c.args.self.now.sound in
     record { chain = walkable s c.args.column (omega arith) (omega arith); stands = λ d. absurd (d refl); below = omega arith }
 
-pub code-if-requires : goal.code-if-requires
-code-if-requires c = record { link = λ d. omega (arith, (c.seek.ensures.ahead d).1); row = omega arith }
+pub code_if-requires : goal.code_if-requires
+code_if-requires c = record { link = λ d. omega (arith, (c.seek.ensures.ahead d).1); row = omega arith }
 
 pub returns : goal.returns
 returns c =

@@ -20,8 +20,8 @@ seek-spot-requires c =
     let s = sound c.args.self.now.sound in
     record { chain = walkable s c.args.column (omega arith) (omega arith); stands = λ d. absurd (d refl); below = omega (arith, c.max.ensures) }
 
-pub cell-at-requires : goal.cell-at-requires
-cell-at-requires c = omega (arith, row_of_some c.args.self.now.chains.cells.now c.seek-spot.result.at c.if-spot-eq0.false, (c.seek-spot.ensures.ahead c.if-spot-eq0.false).1)
+pub cell_at-requires : goal.cell_at-requires
+cell_at-requires c = omega (arith, row_of_some c.args.self.now.chains.cells.now c.seek-spot.result.at c.if-spot-eq0.false, (c.seek-spot.ensures.ahead c.if-spot-eq0.false).1)
 
 pub returns-then-spot-eq0 : goal.returns-then-spot-eq0
 returns-then-spot-eq0 c =
@@ -32,5 +32,5 @@ pub returns-else-spot-eq0 : goal.returns-else-spot-eq0
 returns-else-spot-eq0 c =
     let d = c.args.self.now in
     let s = sound d.sound in
-    ap (λ (x : Cell). Some x.row) c.cell-at.ensures
+    ap (λ (x : Cell). Some x.row) c.cell_at.ensures
     ∙ next_some d.rows d.columns _ c.args.column c.args.first _ _ _ s.chained.one_each s.filled s.rows_to (omega arith) (omega arith) c.seek-spot.ensures c.max.ensures c.if-spot-eq0.false

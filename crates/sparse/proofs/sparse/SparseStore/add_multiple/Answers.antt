@@ -66,8 +66,8 @@ loop-link-init g c =
     let d = c.args.self.now in
     (0, merge_start (g.F.Field.arithmetic c.args.field.now) c.args.factor c.args.from c.args.to d.rows d.columns d.chains.heads.now d.chains.cells.now _ _ c.seek-link.ensures)
 
-pub cell-at-cell-requires : goal.cell-at-cell-requires
-cell-at-cell-requires g c =
+pub cell_at-cell-requires : goal.cell_at-cell-requires
+cell_at-cell-requires g c =
     let some = c.loop-link-test.true in
     omega (arith, row_of_some c.loop-link.self.chains.cells.now c.loop-link.link some, (c.loop-link.invariant.1.follows.0 some).1)
 
@@ -81,8 +81,8 @@ seek-spot-requires g c =
     let s = sound n.sound in
     let w = c.loop-link.invariant.1 in
     let some = c.loop-link-test.true in
-    let x = c.cell-at-cell.result in
-    let ex = c.cell-at-cell.ensures in
+    let x = c.cell_at-cell.result in
+    let ex = c.cell_at-cell.ensures in
     let ff : 1 ≤ c.args.from = omega (arith, c.if-from-eq0.false) in
     let ft : c.args.from ≤ n.columns = omega (arith, c.if-from-self.false, w.same_columns) in
     record {
@@ -91,8 +91,8 @@ seek-spot-requires g c =
       below = omega (arith, w.below, row_past f c.args.factor c.args.from c.args.to t m w s some x ex ff ft);
     }
 
-pub code-if-old-requires : goal.code-if-old-requires
-code-if-old-requires g c =
+pub code_if-old-requires : goal.code_if-old-requires
+code_if-old-requires g c =
     let d = c.args.self.now in
     let f = g.F.Field.arithmetic c.args.field.now in
     let t = sparse_terms (length d.chains.cells.now) (length d.chains.heads.now) in
@@ -101,8 +101,8 @@ code-if-old-requires g c =
     let s = sound n.sound in
     let w = c.loop-link.invariant.1 in
     let some = c.loop-link-test.true in
-    let x = c.cell-at-cell.result in
-    let ex = c.cell-at-cell.ensures in
+    let x = c.cell_at-cell.result in
+    let ex = c.cell_at-cell.ensures in
     let ff : 1 ≤ c.args.from = omega (arith, c.if-from-eq0.false) in
     let ft : c.args.from ≤ n.columns = omega (arith, c.if-from-self.false, w.same_columns) in
     record { link = λ z. omega (arith, (c.seek-spot.ensures.ahead z).1); row = omega (arith, row_past f c.args.factor c.args.from c.args.to t m w s some x ex ff ft) }
@@ -117,8 +117,8 @@ set-requires g c =
     let s = sound n.sound in
     let w = c.loop-link.invariant.1 in
     let some = c.loop-link-test.true in
-    let x = c.cell-at-cell.result in
-    let ex = c.cell-at-cell.ensures in
+    let x = c.cell_at-cell.result in
+    let ex = c.cell_at-cell.ensures in
     let ff : 1 ≤ c.args.from = omega (arith, c.if-from-eq0.false) in
     let ft : c.args.from ≤ n.columns = omega (arith, c.if-from-self.false, w.same_columns) in
     let place : Place n.rows n.columns x.row c.args.to = record {
@@ -129,8 +129,8 @@ set-requires g c =
     } in
     record { place = place; spot = c.seek-spot.ensures }
 
-pub returns-in-err-set : goal.returns-in-err-set
-returns-in-err-set g c =
+pub returns-in_err-set : goal.returns-in_err-set
+returns-in_err-set g c =
     let d = c.args.self.now in
     let f = g.F.Field.arithmetic c.args.field.now in
     let t = sparse_terms (length d.chains.cells.now) (length d.chains.heads.now) in
@@ -139,8 +139,8 @@ returns-in-err-set g c =
     let s = sound n.sound in
     let w = c.loop-link.invariant.1 in
     let some = c.loop-link-test.true in
-    let x = c.cell-at-cell.result in
-    let ex = c.cell-at-cell.ensures in
+    let x = c.cell_at-cell.result in
+    let ex = c.cell_at-cell.ensures in
     let ff : 1 ≤ c.args.from = omega (arith, c.if-from-eq0.false) in
     let ft : c.args.from ≤ n.columns = omega (arith, c.if-from-self.false, w.same_columns) in
     let place : Place n.rows n.columns x.row c.args.to = record {
@@ -149,11 +149,11 @@ returns-in-err-set g c =
       column_from = omega (arith, c.if-to-eq0.false);
       column_to = omega (arith, c.if-to-self.false, w.same_columns);
     } in
-    let z = err_from_is_err_and c.from-residual.result c.from-residual.ensures.1 in
+    let z = err_from_is_err_and c.from_residual.result c.from_residual.ensures.1 in
     let k = c.set.ensures in
     let e = merge_refused f c.args.factor c.args.from c.args.to t m w s some x ex ff ft
-    c.code-if-old.result c.product.result c.sum-sum.result _ c.set.result c.from-residual.result c.in-err-set.field-0.0 z.0
-    (c.code-if-old.ensures ∙ sym (entry_is s place c.seek-spot.ensures)) c.product.ensures c.sum-sum.ensures k.answer k.after c.in-err-set.was z.1 z.2 in
+    c.code_if-old.result c.product.result c.sum-sum.result _ c.set.result c.from_residual.result c.in_err-set.field-0.0 z.0
+    (c.code_if-old.ensures ∙ sym (entry_is s place c.seek-spot.ensures)) c.product.ensures c.sum-sum.ensures k.answer k.after c.in_err-set.was z.1 z.2 in
     record {
       answer = e.answer;
       after = e.after;
@@ -171,8 +171,8 @@ loop-link-smaller g c =
     let s = sound n.sound in
     let w = c.loop-link.invariant.1 in
     let some = c.loop-link-test.true in
-    let x = c.cell-at-cell.result in
-    let ex = c.cell-at-cell.ensures in
+    let x = c.cell_at-cell.result in
+    let ex = c.cell_at-cell.ensures in
     let ff : 1 ≤ c.args.from = omega (arith, c.if-from-eq0.false) in
     let ft : c.args.from ≤ n.columns = omega (arith, c.if-from-self.false, w.same_columns) in
     left_less n.chains.cells.now c.set.new.self.chains.cells.now c.args.from c.loop-link.link x.row x.next some (row_is f c.args.factor c.args.from c.args.to t m w s some x ex ff ft)
@@ -188,8 +188,8 @@ loop-link-preserved g c =
     let s = sound n.sound in
     let w = c.loop-link.invariant.1 in
     let some = c.loop-link-test.true in
-    let x = c.cell-at-cell.result in
-    let ex = c.cell-at-cell.ensures in
+    let x = c.cell_at-cell.result in
+    let ex = c.cell_at-cell.ensures in
     let ff : 1 ≤ c.args.from = omega (arith, c.if-from-eq0.false) in
     let ft : c.args.from ≤ n.columns = omega (arith, c.if-from-self.false, w.same_columns) in
     let place : Place n.rows n.columns x.row c.args.to = record {
@@ -200,8 +200,8 @@ loop-link-preserved g c =
     } in
     let k = c.set.ensures in (
       x.row,
-      merge_put f c.args.factor c.args.from c.args.to t m w s some x ex ff ft c.seek-spot.ensures c.code-if-old.result c.product.result c.sum-sum.result c.set.result tt
-          (c.code-if-old.ensures ∙ sym (entry_is s place c.seek-spot.ensures)) c.product.ensures c.sum-sum.ensures k.answer k.after c.in-ok-set.was k.stays.rows k.stays.columns k.stays.kept k.stays.terms,
+      merge_put f c.args.factor c.args.from c.args.to t m w s some x ex ff ft c.seek-spot.ensures c.code_if-old.result c.product.result c.sum-sum.result c.set.result tt
+          (c.code_if-old.ensures ∙ sym (entry_is s place c.seek-spot.ensures)) c.product.ensures c.sum-sum.ensures k.answer k.after c.in_ok-set.was k.stays.rows k.stays.columns k.stays.kept k.stays.terms,
     )
 
 pub returns : goal.returns

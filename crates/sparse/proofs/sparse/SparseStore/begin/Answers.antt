@@ -28,8 +28,8 @@ clear-requires c =
     let s = sound c.args.self.now.sound in
     record { cells = omega (arith, s.lent); heads = omega (arith, c.width.ensures, c.if-columns-width.false); past = s.unused }
 
-pub invariant-of-self : goal.invariant-of-self
-invariant-of-self c =
+pub invariant_of-self : goal.invariant_of-self
+invariant_of-self c =
     (λ n. n (begun_sound c.args.rows c.args.columns _ _ c.if-rows-gt65535.false (omega (arith, c.width.ensures, c.if-columns-width.false, c.clear.ensures.wide)) c.clear.ensures.cells c.clear.ensures.heads), tt)
 
 pub returns : goal.returns

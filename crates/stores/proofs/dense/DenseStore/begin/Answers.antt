@@ -11,24 +11,24 @@ pub returns-then-wanted-self : goal.returns-then-wanted-self
 returns-then-wanted-self c =
     let d = c.args.self.now in
     let m = packed d.width.bits d.rows d.columns d.plane.bytes.now in
-    let o = begin_refused d.width.bits (length d.plane.bytes.now) c.args.rows c.args.columns d.width.whole (omega (arith, c.bytes-of-wanted.ensures)) in
+    let o = begin_refused d.width.bits (length d.plane.bytes.now) c.args.rows c.args.columns d.width.whole (omega (arith, c.bytes_of-wanted.ensures)) in
     record { answer = sym o; after = sym (ap (λ x. left_by x (blank c.args.rows c.args.columns) m) o); terms = refl; backing = refl }
 
-pub invariant-of-self : goal.invariant-of-self
-invariant-of-self c =
+pub invariant_of-self : goal.invariant_of-self
+invariant_of-self c =
     let d = c.args.self.now in (
-      bytes_hold d.width.bits (c.args.rows * c.args.columns) _ d.width.whole (omega (arith, c.bytes-of-wanted.ensures, c.clear.ensures.long)),
-      (packed_count d.width.bits c.args.rows c.args.columns _ d.width.whole (cleared_to _ _ _ c.bytes-of-wanted.ensures c.clear.ensures.empty), tt),
+      bytes_hold d.width.bits (c.args.rows * c.args.columns) _ d.width.whole (omega (arith, c.bytes_of-wanted.ensures, c.clear.ensures.long)),
+      (packed_count d.width.bits c.args.rows c.args.columns _ d.width.whole (cleared_to _ _ _ c.bytes_of-wanted.ensures c.clear.ensures.empty), tt),
     )
 
 pub returns : goal.returns
 returns c =
     let d = c.args.self.now in
     let m = packed d.width.bits d.rows d.columns d.plane.bytes.now in
-    let o = begin_accepted d.width.bits (length d.plane.bytes.now) c.args.rows c.args.columns d.width.whole (omega (arith, c.bytes-of-wanted.ensures)) in
+    let o = begin_accepted d.width.bits (length d.plane.bytes.now) c.args.rows c.args.columns d.width.whole (omega (arith, c.bytes_of-wanted.ensures)) in
     record {
       answer = sym o;
-      after = packed_blank d.width.bits c.args.rows c.args.columns _ d.width.whole (cleared_to _ _ _ c.bytes-of-wanted.ensures c.clear.ensures.empty) ∙ sym (ap (λ x. left_by x (blank c.args.rows c.args.columns) m) o);
+      after = packed_blank d.width.bits c.args.rows c.args.columns _ d.width.whole (cleared_to _ _ _ c.bytes_of-wanted.ensures c.clear.ensures.empty) ∙ sym (ap (λ x. left_by x (blank c.args.rows c.args.columns) m) o);
       terms = ap (dense_terms d.width.bits) c.clear.ensures.long;
       backing = refl;
     }

@@ -4,8 +4,8 @@ use Rattle.std.proofs.lemmas.Nat.{one_shl}
 use Rattle.stores.proofs.Widths.{bits_le}
 use Rattle.stores.proofs.width.EntryWidth.bound.Goals as goal
 
-pub overflow-shl-result : goal.overflow-shl-result
-overflow-shl-result c = omega (arith, bits_le c.args.self.bits c.args.self.whole)
+pub overflow_shl-result : goal.overflow_shl-result
+overflow_shl-result c = omega (arith, bits_le c.args.self.bits c.args.self.whole)
 
 pub returns : goal.returns
 returns c = one_shl c.args.self.bits 32 (omega (arith, bits_le c.args.self.bits c.args.self.whole))

@@ -7,8 +7,8 @@ use Rattle.survey.specs.Surveys.{Survey}
 use Rattle.survey.proofs.Tables.{at_blank}
 use Rattle.survey.proofs.neighbours.Neighbours.new.Goals as goal
 
-pub invariant-of-result : goal.invariant-of-result
-invariant-of-result c =
+pub invariant_of-result : goal.invariant_of-result
+invariant_of-result c =
     (omega arith, (omega arith, ((λ x y e. absurd (true≢false (sym e ∙ at_blank 65 65 x y))), ((λ x. at_blank 65 65 x x), tt))))
 
 pub returns : goal.returns

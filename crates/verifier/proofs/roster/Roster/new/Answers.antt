@@ -29,12 +29,12 @@ loop-x-preserved c =
     let sensors = c.loop-x.sensors in
     let few : get_or fence i 0 < length sensors = omega (arith, in_table c.args.survey fence i c.fence-fence.ensures c.loop-x-test.true, c.loop-x.invariant.0) in (
       length-set sensors (get_or fence i 0) _ ∙ c.loop-x.invariant.0,
-      marked_more fence i sensors _ c.loop-x-test.true few c.set-state.ensures c.loop-x.invariant.1,
-      all_on_more 65 sensors (get_or fence i 0) _ few c.set-state.ensures c.loop-x.invariant.2,
+      marked_more fence i sensors _ c.loop-x-test.true few c.set_state.ensures c.loop-x.invariant.1,
+      all_on_more 65 sensors (get_or fence i 0) _ few c.set_state.ensures c.loop-x.invariant.2,
     )
 
-pub invariant-of-result : goal.invariant-of-result
-invariant-of-result c =
+pub invariant_of-result : goal.invariant_of-result
+invariant_of-result c =
     (subst (λ (f : List ℕ). Marked f c.loop-x.sensors) (take_all _ c.fence-fence.result.now c.loop-x-test.false ∙ c.fence-fence.ensures) c.loop-x.invariant.1, tt)
 
 pub returns : goal.returns

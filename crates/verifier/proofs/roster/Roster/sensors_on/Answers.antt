@@ -9,4 +9,4 @@ all true = refl
 all false = refl
 
 pub returns : goal.returns
-returns c = c.chosen-set.ensures ∙ fun_ext (λ x. all ((meaning_of c.args.self.now).on x))
+returns c = c.chosen_set.ensures ∙ fun_ext (λ x. all ((meaning_of c.args.self.now).on x))

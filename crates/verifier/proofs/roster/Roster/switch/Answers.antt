@@ -7,9 +7,9 @@ use Rattle.verifier.proofs.Tables.{marked_switched, on_switched}
 use Rattle.verifier.proofs.roster.Roster.switch.Goals as goal
 use Rattle.verifier.proofs.roster.Roster.switch.Goals.{then-on, else-on}
 
-pub invariant-of-self : goal.invariant-of-self
-invariant-of-self c =
-    let set_is = c.set-state.ensures in (
+pub invariant_of-self : goal.invariant_of-self
+invariant_of-self c =
+    let set_is = c.set_state.ensures in (
       marked_switched _ c.args.self.now.sensors c.args.sensor _ (search rules) c.requires.1
           (elim c.if-on.branch [ then-on w ↦ ap is_fence_of (set_is ∙ w.state_is) | else-on w ↦ ap is_fence_of (set_is ∙ w.state_is) ])
           c.args.self.now.fenced,
@@ -19,7 +19,7 @@ invariant-of-self c =
 pub returns : goal.returns
 returns c =
     let s = survey_of c.args.self.now.survey in
-    let set_is = c.set-state.ensures in
+    let set_is = c.set_state.ensures in
     record {
       after = ap (λ (f : ℕ → Bool). record { survey = s; on = f })
           (on_switched s c.args.self.now.sensors c.args.sensor _ c.args.on (search rules) c.requires.0
