@@ -6,7 +6,7 @@ use field::Field;
 
 // Is one of them not below the field's order?
 pub(crate) fn has_outside<F: Field>(field: &F, codes: &[u16]) -> bool
-    ensures { result ≡ has_outside_of (arithmetic field.now) codes.now }
+    ensures { result ≡ has_outside_of (F.arithmetic field.now) codes.now }
 {
     for code in codes {
         if *code as u32 >= field.order() {

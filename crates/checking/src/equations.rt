@@ -10,7 +10,7 @@ use matrix::grid::Grid;
 // The first entries of a row, weighted by the codes.
 fn row_sum<F: Field, G: Grid>(field: &F, grid: &G, row: u32, codes: &[u16]) -> u16
     requires { length codes.now ≤ 1024 }
-    ensures { result ≡ combination (arithmetic field.now) (length codes.now) (holds grid.now).at (vector codes.now) row }
+    ensures { result ≡ combination (F.arithmetic field.now) (length codes.now) (G.holds grid.now).at (vector codes.now) row }
 {
     let mut sum = 0;
     for i in 0..codes.len() {
@@ -23,7 +23,7 @@ fn row_sum<F: Field, G: Grid>(field: &F, grid: &G, row: u32, codes: &[u16]) -> u
 // The first entries of a column, weighted by the codes.
 fn column_sum<F: Field, G: Grid>(field: &F, grid: &G, column: u32, codes: &[u16]) -> u16
     requires { length codes.now ≤ 512 }
-    ensures { result ≡ column_sum_of (arithmetic field.now) (length codes.now) (holds grid.now).at (vector codes.now) column }
+    ensures { result ≡ column_sum_of (F.arithmetic field.now) (length codes.now) (G.holds grid.now).at (vector codes.now) column }
 {
     let mut sum = 0;
     for i in 0..codes.len() {
@@ -36,7 +36,7 @@ fn column_sum<F: Field, G: Grid>(field: &F, grid: &G, column: u32, codes: &[u16]
 // Do the columns, weighted by the codes, give the next column in the first rows?
 pub(crate) fn solves<F: Field, G: Grid>(field: &F, grid: &G, rows: u32, codes: &[u16]) -> bool
     requires { (rows ≤ 512) × (length codes.now ≤ 1024) }
-    ensures { result ≡ solves-system (arithmetic field.now) (system_in rows (length codes.now) (holds grid.now)) (vector codes.now) }
+    ensures { result ≡ solves-system (F.arithmetic field.now) (system_in rows (length codes.now) (G.holds grid.now)) (vector codes.now) }
 {
     let target = codes.len() as u32 + 1;
     for row in 1..rows + 1 {
@@ -50,7 +50,7 @@ pub(crate) fn solves<F: Field, G: Grid>(field: &F, grid: &G, rows: u32, codes: &
 // Are the columns, their rows weighted by the codes, all 0, and the next column 1?
 pub(crate) fn separates<F: Field, G: Grid>(field: &F, grid: &G, columns: u32, codes: &[u16]) -> bool
     requires { (columns ≤ 1024) × (length codes.now ≤ 512) }
-    ensures { result ≡ separates-system (arithmetic field.now) (system_in (length codes.now) columns (holds grid.now)) (vector codes.now) }
+    ensures { result ≡ separates-system (F.arithmetic field.now) (system_in (length codes.now) columns (G.holds grid.now)) (vector codes.now) }
 {
     for column in 1..columns + 1 {
         if column_sum(field, grid, column, codes) != 0 {

@@ -50,7 +50,7 @@ pub fn check<F: Field>(
     claim: Claim,
     codes: &[u16],
 ) -> Result<bool, Refusal>
-    ensures { outcome (λ yes. yes) result ≡ checked (survey_of survey.now) (set_of on.now) (arithmetic field.now) claim codes.now }
+    ensures { outcome (λ yes. yes) result ≡ checked (survey_of survey.now) (set_of on.now) (F.arithmetic field.now) claim codes.now }
 {
     let mut edges = [Edge { a: 0, b: 0 }; 512];
     let mut triangles = [Triangle { a: 0, b: 0, c: 0 }; 1024];

@@ -27,7 +27,7 @@ fn forms<F: Field>(
     requires thirds { length triangles.now ≤ 1024 }
     requires rising { ascends edge_less edges.now ≡ true }
     requires whole { length codes.now ≡ size_of claim (length edges.now) (length triangles.now) }
-    ensures { result ≡ forms-in (arithmetic field.now) (listed_system ((arithmetic field.now).negative 1) edges.now triangles.now fence.now) claim (vector codes.now) }
+    ensures { result ≡ forms-in (F.arithmetic field.now) (listed_system ((F.arithmetic field.now).negative 1) edges.now triangles.now fence.now) claim (vector codes.now) }
 {
     let grid = BoundaryGrid::new(edges, triangles, fence, field.negative(1));
     match claim {
@@ -47,7 +47,7 @@ pub(crate) fn check_listed<F: Field>(
     requires links { length edges.now ≤ 512 }
     requires thirds { length triangles.now ≤ 1024 }
     requires rising { ascends edge_less edges.now ≡ true }
-    ensures { outcome (λ yes. yes) result ≡ verdict (arithmetic field.now) (listed_system ((arithmetic field.now).negative 1) edges.now triangles.now fence.now) claim codes.now }
+    ensures { outcome (λ yes. yes) result ≡ verdict (F.arithmetic field.now) (listed_system ((F.arithmetic field.now).negative 1) edges.now triangles.now fence.now) claim codes.now }
 {
     let size = claim.size(edges.len(), triangles.len());
     if codes.len() < size {

@@ -19,10 +19,10 @@ use stores::width::EntryWidth;
 
 // Takes a shape and makes puts in it, up to the first that is refused.
 pub fn fill<S: Store>(store: &mut S, rows: u32, columns: u32, puts: &[Put]) -> Result<(), Refusal>
-    ensures answer { told result ≡ fill_outcome (terms store.old) rows columns puts.now }
-    ensures after { S.Grid.holds store.new ≡ fill_after (terms store.old) (S.Grid.holds store.old) rows columns puts.now }
-    ensures terms { terms store.new ≡ terms store.old }
-    ensures backing { backing store.new ≡ backing store.old }
+    ensures answer { told result ≡ fill_outcome (S.terms store.old) rows columns puts.now }
+    ensures after { S.Grid.holds store.new ≡ fill_after (S.terms store.old) (S.Grid.holds store.old) rows columns puts.now }
+    ensures terms { S.terms store.new ≡ S.terms store.old }
+    ensures backing { S.backing store.new ≡ S.backing store.old }
 {
     store.begin(rows, columns)?;
     put_all(store, puts)

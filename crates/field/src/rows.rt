@@ -7,7 +7,7 @@ use crate::Field;
 // Adds `factor` times `other` to `row`, code by code, as far as both go.
 // By the laws a place of `row` that holds no code becomes 0; where `other` holds none, or `factor` is none, a code stays.
 pub fn add_multiple<F: Field>(field: &F, row: &mut [u16], factor: u16, other: &[u16])
-    ensures { row.new ≡ plus_multiple (arithmetic field.now) factor row.old other.now }
+    ensures { row.new ≡ plus_multiple (F.arithmetic field.now) factor row.old other.now }
 {
     for i in 0..row.len().min(other.len()) {
         row[i] = field.sum(row[i], field.product(factor, other[i]));

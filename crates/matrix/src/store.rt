@@ -70,10 +70,10 @@ pub trait Store: Grid {
 
 // Makes puts in turn, up to the first that is refused.
 pub fn put_all<S: Store>(store: &mut S, puts: &[Put]) -> Result<(), Refusal>
-    ensures answer { told result ≡ puts_outcome (terms store.old) (S.Grid.holds store.old) puts.now }
-    ensures after { S.Grid.holds store.new ≡ puts_after (terms store.old) (S.Grid.holds store.old) puts.now }
-    ensures terms { terms store.new ≡ terms store.old }
-    ensures backing { backing store.new ≡ backing store.old }
+    ensures answer { told result ≡ puts_outcome (S.terms store.old) (S.Grid.holds store.old) puts.now }
+    ensures after { S.Grid.holds store.new ≡ puts_after (S.terms store.old) (S.Grid.holds store.old) puts.now }
+    ensures terms { S.terms store.new ≡ S.terms store.old }
+    ensures backing { S.backing store.new ≡ S.backing store.old }
     ensures counts { PutCounts }
     ensures splits { HighestSplits }
     ensures tells { HighestTells }

@@ -9,7 +9,12 @@ use Rattle.survey.proofs.neighbours.Neighbours.new.Goals as goal
 
 pub invariant_of-result : goal.invariant_of-result
 invariant_of-result c =
-    (omega arith, (omega arith, ((λ x y e. absurd (true≢false (sym e ∙ at_blank 65 65 x y))), ((λ x. at_blank 65 65 x x), tt))))
+    record {
+      least = omega arith;
+      most = omega arith;
+      inside = λ x y e. absurd (true≢false (sym e ∙ at_blank 65 65 x y));
+      apart = λ x. at_blank 65 65 x x;
+    }
 
 pub returns : goal.returns
 returns c =
