@@ -11,7 +11,7 @@ sum k (x ∷ xs) f = k.add (f x) (sum k xs f)
 
 module _ {E : Type 0} (k : Operations E) (laws : Laws k) where
   open k use {zero as 𝟘, add as ◌⊕◌, mul as ◌⊗◌}
-  open laws use {add_comm, add_assoc, add-zero, mul_add}
+  open laws use {add_comm, add_assoc, add_zero, mul_add}
 
   infixl 65 ◌⊕◌
   infixl 70 ◌⊗◌
@@ -26,7 +26,7 @@ module _ {E : Type 0} (k : Operations E) (laws : Laws k) where
     sum_zero (x ∷ xs) = zero_add k laws (sum k xs (λ x. 𝟘)) ∙ sum_zero xs
 
     pub sum_add : (xs : List X) (f g : X → E) → sum k xs (λ x. f x ⊕ g x) ≡ sum k xs f ⊕ sum k xs g
-    sum_add [] f g = sym (add-zero 𝟘)
+    sum_add [] f g = sym (add_zero 𝟘)
     sum_add (x ∷ xs) f g = ap (λ w. f x ⊕ g x ⊕ w) (sum_add xs f g) ∙ simp (add_assoc, add_left_comm k laws)
 
     pub sum_scale : (xs : List X) (s : E) (f : X → E) → sum k xs (λ x. s ⊗ f x) ≡ s ⊗ sum k xs f
@@ -51,7 +51,7 @@ module _ {E : Type 0} (k : Operations E) (laws : Laws k) where
   sum_only a (suc n) j f l m h = elim (cases_eq a j) [
     | inl e ↦
         let later : sum k (range_with_len (a + 1) n) f ≡ 𝟘 = sum_none (a + 1) n f (λ i l m. h i (omega arith) (omega arith) (omega arith)) in
-        cc (e, add-zero (f j))
+        cc (e, add_zero (f j))
     | inr d ↦
         let here : f a ≡ 𝟘 = h a (omega arith) (omega arith) d in
         let later : sum k (range_with_len (a + 1) n) f ≡ f j = sum_only (a + 1) n j f (omega arith) (omega arith) (λ i l m. h i (omega arith) (omega arith)) in

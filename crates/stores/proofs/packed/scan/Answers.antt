@@ -14,20 +14,20 @@ first_nonzero-requires c =
 pub overflow_mul-place : goal.overflow_mul-place
 overflow_mul-place c =
     let w = c.args.width in
-    omega (arith, c.requires.1, places_until w.bits c.per_byte-per.result w.whole c.per_byte-per.ensures c.args.end c.first_nonzero_of.result (omega arith) c.first_nonzero_of.ensures.within)
+    omega (arith, c.requires.1, places_until w.bits c.per_byte-per.result w.whole c.per_byte-per.ensures c.args.end c.first_nonzero.result (omega arith) c.first_nonzero.ensures.within)
 
 pub loop-place-smaller-then-byte-eq0 : goal.loop-place-smaller-then-byte-eq0
 loop-place-smaller-then-byte-eq0 c =
     let w = c.args.width in
-    let e = c.first_nonzero_of.ensures.scanned in
-    let p = passed_bytes w.bits c.per_byte-per.result w.whole c.per_byte-per.ensures c.args.bytes.now c.args.start c.loop-place.place c.first_nonzero_of.result c.if-byte-eq0.true e.from e.passed c.loop-place.invariant.1 in
+    let e = c.first_nonzero.ensures.scanned in
+    let p = passed_bytes w.bits c.per_byte-per.result w.whole c.per_byte-per.ensures c.args.bytes.now c.args.start c.loop-place.place c.first_nonzero.result c.if-byte-eq0.true e.from e.passed c.loop-place.invariant.1 in
     omega (arith, p.0)
 
 pub loop-place-preserved-then-byte-eq0 : goal.loop-place-preserved-then-byte-eq0
 loop-place-preserved-then-byte-eq0 c =
     let w = c.args.width in
-    let e = c.first_nonzero_of.ensures.scanned in
-    let p = passed_bytes w.bits c.per_byte-per.result w.whole c.per_byte-per.ensures c.args.bytes.now c.args.start c.loop-place.place c.first_nonzero_of.result c.if-byte-eq0.true e.from e.passed c.loop-place.invariant.1 in
+    let e = c.first_nonzero.ensures.scanned in
+    let p = passed_bytes w.bits c.per_byte-per.result w.whole c.per_byte-per.ensures c.args.bytes.now c.args.start c.loop-place.place c.first_nonzero.result c.if-byte-eq0.true e.from e.passed c.loop-place.invariant.1 in
     (omega (arith, p.0, c.loop-place.invariant.0), p.1)
 
 pub code_of-requires : goal.code_of-requires

@@ -11,4 +11,4 @@ returns-in_err-at c =
 
 pub loop-x-preserved : goal.loop-x-preserved
 loop-x-preserved c =
-    (lines_on_more _ _ _ _ _ _ c.loop-x.invariant.0 _ c.sensor_line_of.new.neighbours (omega arith) c.in_ok-at.ensures, c.loop-x.invariant.1)
+    (lines_on_more _ _ _ _ _ _ c.loop-x.invariant.0 _ c.sensor_line.new.neighbours (omega arith) c.in_ok-at.ensures, c.loop-x.invariant.1)

@@ -21,7 +21,7 @@ pub invariant_of-self : goal.invariant_of-self
 invariant_of-self c =
     let s = sound c.args.self.now.sound in
     let k = taking s c.requires.room _ _ _ c.take-taken.ensures.link c.take-taken.ensures.free c.take-taken.ensures.fresh in
-    (λ n. n (insert_left s c.requires.place c.requires.spot _ _ _ c.requires.none c.requires.code k c.edit.ensures.cells c.edit.ensures.heads).is_sound, tt)
+    record { sound = λ n. n (insert_left s c.requires.place c.requires.spot _ _ _ c.requires.none c.requires.code k c.edit.ensures.cells c.edit.ensures.heads).is_sound }
 
 pub returns : goal.returns
 returns c =

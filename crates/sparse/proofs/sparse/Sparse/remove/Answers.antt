@@ -26,7 +26,7 @@ overflow_sub-self c =
 pub invariant_of-self : goal.invariant_of-self
 invariant_of-self c =
     let s = sound c.args.self.now.sound in
-    (λ n. n (remove_left s c.requires.place c.requires.spot c.requires.there _ (ap (λ (x : Cell). x.next) c.cell_at-next.ensures) c.edit.ensures.cells c.edit.ensures.heads).is_sound, tt)
+    record { sound = λ n. n (remove_left s c.requires.place c.requires.spot c.requires.there _ (ap (λ (x : Cell). x.next) c.cell_at-next.ensures) c.edit.ensures.cells c.edit.ensures.heads).is_sound }
 
 pub returns : goal.returns
 returns c =

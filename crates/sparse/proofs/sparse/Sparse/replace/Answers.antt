@@ -12,7 +12,7 @@ recode-requires c =
 pub invariant_of-self : goal.invariant_of-self
 invariant_of-self c =
     let s = sound c.args.self.now.sound in
-    (λ n. n (replace_left s c.requires.place c.requires.spot c.requires.there c.requires.code c.recode.ensures.cells c.recode.ensures.heads).is_sound, tt)
+    record { sound = λ n. n (replace_left s c.requires.place c.requires.spot c.requires.there c.requires.code c.recode.ensures.cells c.recode.ensures.heads).is_sound }
 
 pub returns : goal.returns
 returns c =

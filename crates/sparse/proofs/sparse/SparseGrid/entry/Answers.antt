@@ -16,5 +16,5 @@ pub returns : goal.returns
 returns c =
     let d = c.args.self.now in
     let s = sound d.sound in
-    c.code_if_of.ensures ∙ sym (held_in d.rows d.columns _ c.args.row c.args.column (omega arith) (omega arith) (omega arith) (omega arith)
+    c.code_if.ensures ∙ sym (held_in d.rows d.columns _ c.args.row c.args.column (omega arith) (omega arith) (omega arith) (omega arith)
     ∙ found_spot _ c.args.column c.args.row _ _ (omega arith) s.chained.one_each c.seek.ensures)

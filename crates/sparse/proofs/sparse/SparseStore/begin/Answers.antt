@@ -30,7 +30,7 @@ clear-requires c =
 
 pub invariant_of-self : goal.invariant_of-self
 invariant_of-self c =
-    (λ n. n (begun_sound c.args.rows c.args.columns _ _ c.if-rows-gt65535.false (omega (arith, c.width.ensures, c.if-columns-width.false, c.clear.ensures.wide)) c.clear.ensures.cells c.clear.ensures.heads), tt)
+    record { sound = λ n. n (begun_sound c.args.rows c.args.columns _ _ c.if-rows-gt65535.false (omega (arith, c.width.ensures, c.if-columns-width.false, c.clear.ensures.wide)) c.clear.ensures.cells c.clear.ensures.heads) }
 
 pub returns : goal.returns
 returns c =

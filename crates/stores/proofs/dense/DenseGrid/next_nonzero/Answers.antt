@@ -26,13 +26,13 @@ returns-then-found-end c =
     let d = c.args.self.now in
     let f = code_at d.width.bits d.plane.bytes.now in
     let top = (c.args.column - 1) * d.rows in
-    scan_found d.rows d.columns f c.args.column c.args.first c.scan_found.result (omega (arith, c.if-column-eq0.false)) c.if-column-self.false
-    (subst (λ x. Scanned f (top + (x - 1)) (top + d.rows) c.scan_found.result) c.max.ensures c.scan_found.ensures) c.if-found-end.true
+    scan_found d.rows d.columns f c.args.column c.args.first c.scan-found.result (omega (arith, c.if-column-eq0.false)) c.if-column-self.false
+    (subst (λ x. Scanned f (top + (x - 1)) (top + d.rows) c.scan-found.result) c.max.ensures c.scan-found.ensures) c.if-found-end.true
 
 pub returns-else-found-end : goal.returns-else-found-end
 returns-else-found-end c =
     let d = c.args.self.now in
     let f = code_at d.width.bits d.plane.bytes.now in
     let top = (c.args.column - 1) * d.rows in
-    scan_none d.rows d.columns f c.args.column c.args.first c.scan_found.result
-    (subst (λ x. Scanned f (top + (x - 1)) (top + d.rows) c.scan_found.result) c.max.ensures c.scan_found.ensures) c.if-found-end.false
+    scan_none d.rows d.columns f c.args.column c.args.first c.scan-found.result
+    (subst (λ x. Scanned f (top + (x - 1)) (top + d.rows) c.scan-found.result) c.max.ensures c.scan-found.ensures) c.if-found-end.false

@@ -16,10 +16,11 @@ returns-then-wanted-self c =
 
 pub invariant_of-self : goal.invariant_of-self
 invariant_of-self c =
-    let d = c.args.self.now in (
-      bytes_hold d.width.bits (c.args.rows * c.args.columns) _ d.width.whole (omega (arith, c.bytes_of-wanted.ensures, c.clear.ensures.long)),
-      (packed_count d.width.bits c.args.rows c.args.columns _ d.width.whole (cleared_to _ _ _ c.bytes_of-wanted.ensures c.clear.ensures.empty), tt),
-    )
+    let d = c.args.self.now in
+    record {
+      fits = bytes_hold d.width.bits (c.args.rows * c.args.columns) _ d.width.whole (omega (arith, c.bytes_of-wanted.ensures, c.clear.ensures.long));
+      counted = packed_count d.width.bits c.args.rows c.args.columns _ d.width.whole (cleared_to _ _ _ c.bytes_of-wanted.ensures c.clear.ensures.empty);
+    }
 
 pub returns : goal.returns
 returns c =

@@ -15,13 +15,13 @@ read-old-requires c =
     omega (arith, place_lt d.rows d.columns c.args.row c.args.column (in_from _ _ _ _ c.if-row-eq0.false c.if-row-self.false c.if-column-eq0.false c.if-column-self.false), d.fits, c.place_of-at.ensures)
 
 pub overflow_cast-code-2 : goal.overflow_cast-code-2
-overflow_cast-code-2 c = let w = c.args.self.now.width in record { fits = omega (arith, bound_le w.bits w.whole, c.if-code_bound.false, c.bound.ensures) }
+overflow_cast-code-2 c = let w = c.args.self.now.width in record { fits = omega (arith, bound_le w.bits w.whole, c.if-code-bound.false, c.bound.ensures) }
 
 pub write-requires : goal.write-requires
 write-requires c =
     let d = c.args.self.now in (
       omega (arith, place_lt d.rows d.columns c.args.row c.args.column (in_from _ _ _ _ c.if-row-eq0.false c.if-row-self.false c.if-column-eq0.false c.if-column-self.false), d.fits, c.place_of-at.ensures),
-      omega (arith, c.if-code_bound.false, c.bound.ensures),
+      omega (arith, c.if-code-bound.false, c.bound.ensures),
     )
 
 pub overflow_add-self : goal.overflow_add-self
@@ -39,10 +39,11 @@ overflow_sub-self c = (changed_counts _ _ _ _ _ _ _ _ c.args.self.now.used c.not
 pub invariant_of-self : goal.invariant_of-self
 invariant_of-self c =
     let d = c.args.self.now in
-    let long : length d.plane.bytes.now * per_byte_of d.width.bits ≡ length c.write.new.self.bytes.now * per_byte_of d.width.bits = ap (λ x. x * per_byte_of d.width.bits) (sym c.write.ensures.long) in (
-      omega (arith, d.fits, long),
-      ((changed_counts _ _ _ _ _ _ _ _ d.used c.not_zero.result c.not_zero-2.result (changed c) d.counted c.not_zero.ensures (c.not_zero-2.ensures ∙ ap one_if_not_zero c.read-old.ensures)).1, tt),
-    )
+    let long : length d.plane.bytes.now * per_byte_of d.width.bits ≡ length c.write.new.self.bytes.now * per_byte_of d.width.bits = ap (λ x. x * per_byte_of d.width.bits) (sym c.write.ensures.long) in
+    record {
+      fits = omega (arith, d.fits, long);
+      counted = (changed_counts _ _ _ _ _ _ _ _ d.used c.not_zero.result c.not_zero-2.result (changed c) d.counted c.not_zero.ensures (c.not_zero-2.ensures ∙ ap one_if_not_zero c.read-old.ensures)).1;
+    }
 
 pub returns : goal.returns
 returns c =
@@ -52,8 +53,8 @@ returns c =
     let g = code_at d.width.bits c.write.new.self.bytes.now in
     let there = in_from d.rows d.columns c.args.row c.args.column c.if-row-eq0.false c.if-row-self.false c.if-column-eq0.false c.if-column-self.false in
     record {
-      answer = sym (laid_accepts t d.rows d.columns f c.args.row c.args.column c.args.code refl there (omega (arith, c.if-code_bound.false, c.bound.ensures)));
-      after = changed_leaves t d.rows d.columns f g c.args.row c.args.column c.args.code c.place_of-at.result refl (omega (arith, c.if-code_bound.false, c.bound.ensures))
+      answer = sym (laid_accepts t d.rows d.columns f c.args.row c.args.column c.args.code refl there (omega (arith, c.if-code-bound.false, c.bound.ensures)));
+      after = changed_leaves t d.rows d.columns f g c.args.row c.args.column c.args.code c.place_of-at.result refl (omega (arith, c.if-code-bound.false, c.bound.ensures))
           (record { inside = there; at = c.place_of-at.ensures; places = λ q _. c.write.ensures.codes q });
       terms = ap (dense_terms d.width.bits) c.write.ensures.long;
       backing = refl;

@@ -35,7 +35,7 @@ loop-x-preserved c =
 
 pub invariant_of-result : goal.invariant_of-result
 invariant_of-result c =
-    (subst (λ (f : List ℕ). Marked f c.loop-x.sensors) (take_all _ c.fence-fence.result.now c.loop-x-test.false ∙ c.fence-fence.ensures) c.loop-x.invariant.1, tt)
+    record { fenced = subst (λ (f : List ℕ). Marked f c.loop-x.sensors) (take_all _ c.fence-fence.result.now c.loop-x-test.false ∙ c.fence-fence.ensures) c.loop-x.invariant.1 }
 
 pub returns : goal.returns
 returns c =
