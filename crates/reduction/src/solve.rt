@@ -56,7 +56,7 @@ pub fn solve<F: Field, G: Grid, S: Store>(
     codes: &mut [u16],
 ) -> Result<Verdict, Refusal>
     ensures solves { Solves (F.Field.arithmetic field.now) (system_of (F.Field.arithmetic field.now) (G.Grid.holds start.now)) (S.Store.terms store.old) codes.old (S.Grid.holds store.old) result codes.new (S.Grid.holds store.new) }
-    ensures systems { (S : System) → CodedSystem (F.Field.arithmetic field.now) S → G.Grid.holds start.now ≡ starting_matrix S → Solves (F.Field.arithmetic field.now) S (S.Store.terms store.old) codes.old (S.Grid.holds store.old) result codes.new (S.Grid.holds store.new) }
+    ensures systems { (s : System) → CodedSystem (F.Field.arithmetic field.now) s → G.Grid.holds start.now ≡ starting_matrix s → Solves (F.Field.arithmetic field.now) s (S.Store.terms store.old) codes.old (S.Grid.holds store.old) result codes.new (S.Grid.holds store.new) }
     ensures terms { S.Store.terms store.new ≡ S.Store.terms store.old }
     ensures backing { S.Store.backing store.new ≡ S.Store.backing store.old }
 {

@@ -28,7 +28,7 @@ check_listed-requires g c =
     let on = set_of c.args.on.now in
     let links : length (edges s everyone) ≤ 512 = omega arith in
     let thirds : length (triangles s everyone) ≤ 1024 = omega arith in
-    let es = front_listed (edges s on) (replicate 512 no_edge) c.list_edges.new.out c.in_ok-edge_count.IsEdge-count c.in_ok-edge_count.ensures.answer c.in_ok-edge_count.ensures.after in
+    let es = front_listed (edges s on) (replicate 512 no_edge) c.list_edges.new.out c.in_ok-edge_count.edge_count c.in_ok-edge_count.ensures.answer c.in_ok-edge_count.ensures.after in
     let ts = front_listed (triangles s on) (replicate 1024 no_triangle) c.list_triangles.new.out c.in_ok-triangle_count.triangle_count c.in_ok-triangle_count.ensures.answer c.in_ok-triangle_count.ensures.after in
     record {
       links = omega (arith, ap length es, few_edges s on links);
@@ -41,7 +41,7 @@ returns g c =
     let s = survey_of c.args.survey.now in
     let on = set_of c.args.on.now in
     let F = g.F.Field.arithmetic c.args.field.now in
-    let es = front_listed (edges s on) (replicate 512 no_edge) c.list_edges.new.out c.in_ok-edge_count.IsEdge-count c.in_ok-edge_count.ensures.answer c.in_ok-edge_count.ensures.after in
+    let es = front_listed (edges s on) (replicate 512 no_edge) c.list_edges.new.out c.in_ok-edge_count.edge_count c.in_ok-edge_count.ensures.answer c.in_ok-edge_count.ensures.after in
     let ts = front_listed (triangles s on) (replicate 1024 no_triangle) c.list_triangles.new.out c.in_ok-triangle_count.triangle_count c.in_ok-triangle_count.ensures.answer c.in_ok-triangle_count.ensures.after in
     c.check_listed.ensures
     ∙ ap₂ (λ es ts. verdict F (listed_system (F.negative 1) es ts c.fence.result.now) c.args.claim c.args.codes.now) es ts

@@ -9,10 +9,10 @@ loop-column-init g c t l m = absurd (omega arith)
 
 pub returns-then-column_sum-ne0 : goal.returns-then-column_sum-ne0
 returns-then-column_sum-ne0 g c =
-    sym (and_left _ _ (agree_not c.args.columns _ _ c.loop-column.column (omega arith) (omega arith) (λ e. c.if-column_sum-ne0.true (c.column_sum_of.ensures ∙ e))))
+    sym (and_left _ _ (agree_not c.args.columns _ _ c.loop-column.column (omega arith) (omega arith) (λ e. c.if-column_sum-ne0.true (c.column_sum.ensures ∙ e))))
 
 pub loop-column-preserved : goal.loop-column-preserved
-loop-column-preserved g c = below_more _ _ c.loop-column.invariant (λ _. sym c.column_sum_of.ensures ∙ c.if-column_sum-ne0.false)
+loop-column-preserved g c = below_more _ _ c.loop-column.invariant (λ _. sym c.column_sum.ensures ∙ c.if-column_sum-ne0.false)
 
 pub returns : goal.returns
 returns g c =

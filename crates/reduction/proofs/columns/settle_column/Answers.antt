@@ -10,7 +10,7 @@ use Rattle.reduction.proofs.Shapes.{of_shape}
 use Rattle.reduction.proofs.columns.settle_column.Goals as goal
 
 pub owner_of-owner-requires : goal.owner_of-owner-requires
-owner_of-owner-requires g c = omega (arith, c.low_row.ensures, low_most (g.S.Grid.holds c.args.store.now).at c.args.shape.edges (c.args.before + 1), c.requires.pivots.long)
+owner_of-owner-requires g c = omega (arith, c.low-row.ensures, low_most (g.S.Grid.holds c.args.store.now).at c.args.shape.edges (c.args.before + 1), c.requires.pivots.long)
 
 pub loop-owner-init : goal.loop-owner-init
 loop-owner-init g c =
@@ -18,10 +18,10 @@ loop-owner-init g c =
     let laws = g.met.F.Field.laws c.args.field.now in
     let m = g.S.Grid.holds c.args.store.now in
     let t = g.S.Store.terms c.args.store.now in (
-      of_shape (λ E T. InColumn a laws E T t m c.args.additions c.args.before c.args.table.now m c.args.additions c.low_row.result c.owner_of-owner.result)
+      of_shape (λ E T. InColumn a laws E T t m c.args.additions c.args.before c.args.table.now m c.args.additions c.low-row.result c.owner_of-owner.result)
           m.rows m.columns c.args.shape.edges c.args.shape.triangles c.requires.ready.rows c.requires.ready.columns
-          (in_column_none a laws c.args.shape.edges c.args.shape.triangles t m c.args.additions c.args.before c.args.table.now c.low_row.result c.owner_of-owner.result
-          c.requires.ready c.requires.pivots c.low_row.ensures c.owner_of-owner.ensures),
+          (in_column_none a laws c.args.shape.edges c.args.shape.triangles t m c.args.additions c.args.before c.args.table.now c.low-row.result c.owner_of-owner.result
+          c.requires.ready c.requires.pivots c.low-row.ensures c.owner_of-owner.ensures),
       refl,
       refl,
     )

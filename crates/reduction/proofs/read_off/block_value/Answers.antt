@@ -7,8 +7,8 @@ pub returns-then-owner-ne0 : goal.returns-then-owner-ne0
 returns-then-owner-ne0 g c =
     value_owned (g.F.Field.arithmetic c.args.field.now) (g.met.F.Field.laws c.args.field.now) c.args.shape.edges c.args.shape.triangles (g.G.Grid.holds c.args.reduced.now).at c.args.before c.owner_of-owner.result
     (c.owner_of-owner.ensures ∙ c.requires.pivots.owners (c.args.before + 1) (omega arith) (omega (arith, c.requires.inside.0)))
-    c.args.codes.now c.weighted_sum.result c.negative.result c.entry.result c.inverse.result c.product.result
-    c.if-owner-ne0.true c.requires.values c.weighted_sum.ensures c.negative.ensures c.entry.ensures c.inverse.ensures c.product.ensures
+    c.args.codes.now c.weighted-sum.result c.negative.result c.entry.result c.inverse.result c.product.result
+    c.if-owner-ne0.true c.requires.values c.weighted-sum.ensures c.negative.ensures c.entry.ensures c.inverse.ensures c.product.ensures
 
 pub returns-then-top-row : goal.returns-then-top-row
 returns-then-top-row g c =

@@ -4,4 +4,4 @@ use Rattle.matrix.proofs.Counts.{count_empty}
 use Rattle.customer.proofs.square.Square.new.Goals as goal
 
 pub invariant_of-result : goal.invariant_of-result
-invariant_of-result c = (omega arith, (sym (count_empty _), tt))
+invariant_of-result c = record { fits = omega arith; counted = sym (count_empty _) }

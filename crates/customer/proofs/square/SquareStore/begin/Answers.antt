@@ -17,10 +17,10 @@ returns-then-rows-columns c =
     record { answer = sym o; after = sym (ap (λ x. left_by x (blank c.args.rows c.args.columns) (square s.side s.memory.codes.now)) o); terms = refl; backing = refl }
 
 pub invariant_of-self : goal.invariant_of-self
-invariant_of-self c = (
-  omega (arith, same_product c.args.rows c.args.columns c.if-rows-columns.false, c.if-rows-columns-2.false, c.clear.ensures.long),
-  (square_count c.args.rows c.args.columns _ c.if-rows-columns.false c.clear.ensures.zero, tt),
-)
+invariant_of-self c = record {
+  fits = omega (arith, same_product c.args.rows c.args.columns c.if-rows-columns.false, c.if-rows-columns-2.false, c.clear.ensures.long);
+  counted = square_count c.args.rows c.args.columns _ c.if-rows-columns.false c.clear.ensures.zero;
+}
 
 pub returns : goal.returns
 returns c =

@@ -17,10 +17,10 @@ returns-then-rows-columns c =
     record { answer = sym o; after = sym (ap (λ x. left_by x (blank c.args.rows c.args.columns) (tall s.rows s.columns s.memory.codes.now)) o); terms = refl; backing = refl }
 
 pub invariant_of-self : goal.invariant_of-self
-invariant_of-self c = (
-  omega (arith, c.if-rows-columns-2.false, c.clear.ensures.long),
-  (tall_count c.args.rows c.args.columns _ c.clear.ensures.zero, tt),
-)
+invariant_of-self c = record {
+  fits = omega (arith, c.if-rows-columns-2.false, c.clear.ensures.long);
+  counted = tall_count c.args.rows c.args.columns _ c.clear.ensures.zero;
+}
 
 pub returns : goal.returns
 returns c =

@@ -35,10 +35,11 @@ overflow_sub-self c = (changed_counts _ _ _ _ _ _ _ _ c.args.self.now.used c.not
 
 pub invariant_of-self : goal.invariant_of-self
 invariant_of-self c =
-    let s = c.args.self.now in (
-      omega (arith, s.fits, ap length c.write.ensures ∙ length-set s.memory.codes.now c.place_of-at.result c.args.code),
-      ((changed_counts _ _ _ _ _ _ _ _ s.used c.not_zero.result c.not_zero-2.result (changed c) s.counted c.not_zero.ensures (c.not_zero-2.ensures ∙ ap one_if_not_zero c.read-old.ensures)).1, tt),
-    )
+    let s = c.args.self.now in
+    record {
+      fits = omega (arith, s.fits, ap length c.write.ensures ∙ length-set s.memory.codes.now c.place_of-at.result c.args.code);
+      counted = (changed_counts _ _ _ _ _ _ _ _ s.used c.not_zero.result c.not_zero-2.result (changed c) s.counted c.not_zero.ensures (c.not_zero-2.ensures ∙ ap one_if_not_zero c.read-old.ensures)).1;
+    }
 
 pub returns : goal.returns
 returns c =
