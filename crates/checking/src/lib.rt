@@ -1,4 +1,6 @@
 // Checking claims: whether codes that somebody brings form a filling or a block for the sensors that are on.
+#![tactic(auto)]
+
 ghost use Rattle.std.specs.Prelude.{◌≡◌};
 ghost use Rattle.refusal.specs.Outcomes.{outcome};
 ghost use Rattle.survey.specs.Plans.{survey_of};

@@ -10,7 +10,7 @@ use Rattle.survey.specs.Surveys.{Survey, Sensors, Valid, edges, triangles}
 use Rattle.complex.specs.declared.lists.Lists.{Lists}
 use Rattle.complex.specs.Boundaries.{listed_system, system}
 use Rattle.complex.specs.Orders.{ascends, edge_less, Stands}
-use Rattle.complex.specs.Systems.{System, starting, starting_matrix}
+use Rattle.complex.specs.Systems.{System, starting_matrix}
 
 abbrev pub matrix_of : Lists → Matrix
 matrix_of l = starting_matrix (listed_system l.minus l.edges.now l.triangles.now l.fence.now)

@@ -1,5 +1,5 @@
 -- The elements of a field: codes with their bound. They keep the laws with no side conditions, and carry over to codes.
-use Rattle.std.proofs.Common.{◌≡◌, ℕ, ◌<◌, ◌≤◌, cond, ltb, sym, refl, ap, ◌∙◌, ⊎_elim, arith}
+use Rattle.std.proofs.Common.{◌≡◌, ℕ, ◌<◌, cond, ltb, sym, refl, ap, ◌∙◌, ⊎_elim, arith}
 use native.Mathlib.Fin
 use native.Mathlib.Decide.{Fin-discrete}
 use Rattle.std.proofs.lemmas.Bool.{cond-true, cond-false, cond_both, lt-ltb, le-ltb, ltb-true, cases_lt}

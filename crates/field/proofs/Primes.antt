@@ -1,11 +1,11 @@
 -- The test for an odd prime tells what an odd prime is.
-use Rattle.std.proofs.Common.{◌≡◌, ℕ, zero, suc, ◌%◌, ◌<◌, ◌≤◌, Bool, true, false, not, ◌&&◌, ◌||◌, eqb, ltb, leb, refl, ⊎_elim, arith}
+use Rattle.std.proofs.Common.{◌≡◌, ℕ, zero, suc, ◌%◌, ◌<◌, Bool, true, not, ◌||◌, eqb, ltb, refl, ⊎_elim, arith}
 use Rattle.std.proofs.lemmas.Bool.{and_parts, and_from, or_cases, or_left, or_right, not_from_false, cases_Bool, cases_lt, cond-true, cond-false, lt-ltb, le-leb, ltb-true, leb-true, eqb-false, ne_eqb, not-true}
 use Rattle.refusal.specs.declared.Refusal.TheVariants.{NotOddPrime}
 use Rattle.refusal.specs.Numbers.{number_of}
-use Rattle.refusal.specs.Outcomes.{Outcome, accepted, refused}
+use Rattle.refusal.specs.Outcomes.{accepted, refused}
 use Rattle.field.specs.Counting.{all}
-use Rattle.field.specs.Primes.{OddPrime, Indivisible, odd_prime, modulus}
+use Rattle.field.specs.Primes.{OddPrime, odd_prime, modulus}
 use Rattle.field.specs.Tested.{each}
 
 all_from : (n : ℕ) (t : ℕ → Bool) → ((d : ℕ) → d < n → t d ≡ true) → all n t ≡ true

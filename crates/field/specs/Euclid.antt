@@ -1,11 +1,11 @@
 -- Euclid's divisions with multipliers, step by step, and the inverse modulo a prime that they give.
-use Rattle.std.specs.Prelude.{◌≡◌, ℕ, zero, suc, ◌+◌, ◌-◌, ◌*◌, ◌/◌, ◌%◌, ◌^◌, ◌<◌, ◌≤◌, max, ℤ, pos, negsuc, ◌+ℤ◌, ◌-ℤ◌, ◌*ℤ◌, neg_ℤ, unsigned_abs, refl}
+use Rattle.std.specs.Prelude.{◌≡◌, ℕ, zero, suc, ◌+◌, ◌*◌, ◌/◌, ◌%◌, ◌<◌, ◌≤◌, max, ℤ, pos, negsuc, ◌+ℤ◌, ◌-ℤ◌, ◌*ℤ◌, neg_ℤ, unsigned_abs, refl}
 use Rattle.std.proofs.Common.{sym, ap, ◌∙◌, ⊎_elim, mod-lt, mul-le-mul_left, mod-eq_of_lt, arith}
 use Rattle.std.proofs.Math.Nat.{div-add-mod, dvd_refl, dvd-zero, dvd-mod_iff, pos_of_dvd_of_pos, mod-eq-zero_of_dvd, le_of_dvd, mul-add-mod_self_left}
 use borrow.Author.Differences.{up, down, sum_is_lem, product_is, neg_is}
 use Rattle.std.proofs.lemmas.Int.{ints, int_rem_euclid_is}
 use Rattle.std.proofs.lemmas.Bool.{cases_eq}
-use Rattle.std.specs.Int.{int_rem_euclid, ◌∣◌}
+use Rattle.std.specs.Int.{int_rem_euclid}
 use Rattle.field.specs.Divisors.{Bezout}
 use Rattle.field.specs.Primes.{OddPrime}
 use Rattle.field.specs.Residues.{inverse_modulo}

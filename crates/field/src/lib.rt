@@ -1,4 +1,6 @@
 // Finite fields: the trait that every field implements, GF(2), GF(p), and rows of codes over any field.
+#![tactic(auto)]
+
 ghost use Rattle.std.specs.Prelude.{◌≡◌};
 ghost use Rattle.field.specs.Arithmetic.{Arithmetic, FieldLaws};
 

@@ -1,4 +1,6 @@
 // The console: answers commands from standard input, line by line.
+#![tactic(auto)]
+
 mod answers;
 mod fields;
 mod lists;

@@ -1,5 +1,7 @@
 // The theory of coverage: linear systems over a field, the reduction that decides them, and certificates. Each function stands
 // for a theorem, which is its contract.
+#![tactic(auto)]
+
 ghost use Rattle.homology.specs.Examples.{HubComputes, HallsCompute};
 ghost use Rattle.homology.specs.Theorems.{BlockExcludesFilling, OneSolution, OneSeparator, WhatIsDue, ReductionEnds, AddsReach, ReductionAnswers, CertificatePublished, CertificateDecides, OnePublished, PutsReduce, PeakTells, PeakRefuses, FillingsGrow, AlikeSame};
 

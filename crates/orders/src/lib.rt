@@ -1,4 +1,6 @@
 // Thinning orders: which of the sensors that are left to try is tried next.
+#![tactic(auto)]
+
 ghost use Rattle.std.specs.Prelude.{◌≡◌};
 ghost use Rattle.survey.specs.Plans.{survey_of};
 ghost use Rattle.survey.specs.Sets.{set_of};

@@ -1,5 +1,7 @@
 // Solves a survey's system some times in one store, for counting instructions and for timing: reducebench FILE ORDER STORE TIMES.
 // The order is that of the field, and the store is `sparse` or the number of bits of a dense store's entries.
+#![tactic(auto)]
+
 mod runs;
 
 use field::gf2::Gf2;

@@ -1,5 +1,5 @@
 -- Systems with the same shape and the same starting matrix have the same reduction; a grid is read as the system that it starts.
-use Rattle.std.proofs.Common.{◌≡◌, ℕ, ◌+◌, ◌-◌, ◌<◌, ◌≤◌, Bool, true, false, cond, ◌&&◌, eqb, ltb, leb, List, ◌++◌, sym, refl, ap, ◌∙◌, subst, inl, inr, arith}
+use Rattle.std.proofs.Common.{◌≡◌, ℕ, ◌+◌, ◌-◌, ◌≤◌, Bool, true, false, cond, ◌&&◌, eqb, ltb, leb, ◌++◌, sym, refl, ap, ◌∙◌, subst, arith}
 use mathlib.Core.Path.{fun_ext}
 use Rattle.std.proofs.lemmas.Bool.{cond-true, cond_both, lt-ltb, ltb-true, leb-true, and_parts}
 use Rattle.std.proofs.lemmas.Bool.Decides.{nat_tests}
@@ -10,9 +10,8 @@ use Rattle.matrix.specs.Terms.{Terms, puts_outcome}
 use Rattle.complex.specs.Systems.{System, starting, starting_matrix}
 use Rattle.homology.specs.Linear.{CodedSystem}
 use Rattle.homology.specs.Certificate.{filling_codes, block_codes}
-use Rattle.homology.specs.Reduction.{low, course, enough, loading, reduction, all_puts}
+use Rattle.homology.specs.Reduction.{low, course, enough, loading, all_puts}
 use Rattle.homology.proofs.Columns.{starting_codes}
-use Rattle.reduction.specs.declared.solve.Verdict.{Verdict}
 use Rattle.reduction.specs.Grids.{code_of, codes_of, system_of, height_of, width_of}
 use Rattle.reduction.specs.Verdicts.{empty, verdict, answer_codes}
 

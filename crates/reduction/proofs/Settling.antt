@@ -1,5 +1,5 @@
 -- The loops over the columns: what holds while one is worked at, from column to column, and along the last.
-use Rattle.std.proofs.Common.{◌≡◌, ℕ, zero, suc, ◌+◌, ◌-◌, ◌*◌, ◌<◌, ◌≤◌, ◌≢◌, ◌⊎◌, List, get_or, set, Some, None, Ok, Err, Result, sym, refl, ap, ◌∙◌, subst, inl, inr, mul-le-mul, arith}
+use Rattle.std.proofs.Common.{◌≡◌, ℕ, ◌+◌, ◌-◌, ◌*◌, ◌<◌, ◌≤◌, ◌≢◌, ◌⊎◌, List, get_or, set, Some, Ok, Err, Result, sym, ◌∙◌, subst, mul-le-mul, arith}
 use Rattle.refusal.specs.declared.Refusal.{Refusal}
 use Rattle.field.specs.Arithmetic.{Arithmetic, FieldLaws}
 use Rattle.matrix.specs.Matrix.{Matrix, Outside}
@@ -7,12 +7,12 @@ use Rattle.matrix.specs.Multiples.{adding}
 use Rattle.matrix.specs.Terms.{Terms, told, puts_outcome, puts_after}
 use Rattle.homology.specs.Reduction.{Addition, low, due, factor, enough}
 use Rattle.homology.proofs.Due.{what_is_due_lem}
-use Rattle.homology.proofs.Lows.{low_above, low_most}
+use Rattle.homology.proofs.Lows.{low_above}
 use Rattle.reduction.specs.declared.columns.Settled.{Settled}
 use Rattle.reduction.specs.Pivots.{Table}
-use Rattle.reduction.specs.Progress.{Ready, Onward, Stops, ColumnSettled, Settles, AllSettled, SettlesAll, Cleared, Clears}
+use Rattle.reduction.specs.Progress.{Ready, Onward, Stops, ColumnSettled, Settles, Cleared}
 use Rattle.reduction.proofs.Steps.{due_few, onward_none, onward_join, onward_stops, onward_add, onward_entries, stops_add}
-use Rattle.reduction.proofs.Tables.{Owned, table_same, table_owned, low_inside, low_row, column_due, table_dead, table_more, others_stay, low_falls}
+use Rattle.reduction.proofs.Tables.{table_same, table_owned, low_inside, low_row, column_due, table_dead, table_more, others_stay, low_falls}
 use Rattle.reduction.proofs.Targets.{QuietFrom, target_due, quiet_more, target_table, quiet_added}
 
 -- so many additions are few enough to be counted

@@ -1,5 +1,5 @@
 -- A shape tells one number of edges and one of triangles.
-use Rattle.std.proofs.Common.{◌≡◌, ℕ, ◌+◌, sym, subst, arith}
+use Rattle.std.proofs.Common.{◌≡◌, ℕ, ◌+◌, subst, arith}
 
 -- what is shown of one pair is shown of every pair
 pub of_shape : (P : ℕ → ℕ → Type 0) (rows columns E T : ℕ) → rows ≡ E + T → columns ≡ T + 1 → P E T

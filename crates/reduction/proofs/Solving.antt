@@ -1,5 +1,5 @@
 -- What solving comes to, by each way that it ends: refused before anything is begun, or worked out in the shape begun.
-use Rattle.std.proofs.Common.{◌≡◌, ℕ, ◌+◌, ◌<◌, ◌≤◌, max, Bool, true, false, cond, ◌&&◌, eqb, leb, List, ◌++◌, length, take, drop, IfOk, Ok, Err, Result, sym, refl, ap, ◌∙◌, subst, inl, inr, arith}
+use Rattle.std.proofs.Common.{◌≡◌, ℕ, ◌+◌, ◌<◌, ◌≤◌, max, Bool, true, false, cond, ◌&&◌, leb, List, ◌++◌, length, take, drop, IfOk, Ok, Err, Result, sym, refl, ap, ◌∙◌, subst, inl, inr, arith}
 use Rattle.std.proofs.lemmas.List.{take_at}
 use Rattle.std.proofs.lemmas.Bool.{cond-true, cond-false, cases_Bool, leb-true, eqb-true, eqb-false, le-leb, lt-leb, and_from, and_left, and_right}
 use Rattle.refusal.specs.declared.Refusal.{Refusal}
@@ -13,7 +13,7 @@ use Rattle.matrix.specs.Terms.{Terms, left_by, begin_outcome, begin_after, puts_
 use Rattle.complex.specs.Systems.{System, starting_matrix}
 use Rattle.homology.specs.Linear.{CodedSystem, GivenSolution, GivenSeparator}
 use Rattle.homology.specs.Certificate.{filling_codes, block_codes, vector}
-use Rattle.homology.specs.Reduction.{low, enough, reduction, all_puts, peak}
+use Rattle.homology.specs.Reduction.{reduction, all_puts, peak}
 use Rattle.homology.proofs.Ending.{reduction_ends_lem}
 use Rattle.homology.proofs.Listing.{length_listed}
 use Rattle.homology.proofs.ReadOff.{reduction_answers_lem}

@@ -1,9 +1,9 @@
 -- The last column, row by row from the last one up: what is due to it, and that a row that was passed stays quiet.
-use Rattle.std.proofs.Common.{◌≡◌, ℕ, suc, ◌+◌, ◌-◌, ◌<◌, ◌≤◌, ◌≢◌, ◌⊎◌, List, get_or, Some, sym, refl, ap, ◌∙◌, subst, inl, inr, arith}
+use Rattle.std.proofs.Common.{◌≡◌, ℕ, ◌+◌, ◌-◌, ◌<◌, ◌≤◌, ◌≢◌, ◌⊎◌, List, get_or, Some, sym, ap, ◌∙◌, subst, inl, inr, arith}
 use Rattle.std.proofs.lemmas.Bool.{cases_eq}
 use Rattle.field.specs.Arithmetic.{Arithmetic, FieldLaws, Code}
 use Rattle.matrix.specs.Matrix.{Entries}
-use Rattle.homology.specs.Reduction.{low, due, added}
+use Rattle.homology.specs.Reduction.{due, added}
 use Rattle.homology.specs.Theorems.{Quiet}
 use Rattle.homology.proofs.Due.{what_is_due_lem}
 use Rattle.homology.proofs.Lows.{low_same}

@@ -4,13 +4,13 @@ use Rattle.std.proofs.lemmas.Bool.{cases_eq, le-leb, cond-true, cond-false, eq-e
 use Rattle.std.proofs.lemmas.Bool.Decides.{nat_tests}
 use Rattle.refusal.specs.declared.Refusal.{Refusal}
 use Rattle.refusal.specs.Numbers.{number_of}
-use Rattle.refusal.specs.Outcomes.{Outcome, accepted, refused, and_then}
+use Rattle.refusal.specs.Outcomes.{accepted, refused, and_then}
 use Rattle.field.specs.Arithmetic.{Arithmetic}
 use Rattle.matrix.specs.declared.put.Put.{Put}
 use Rattle.matrix.specs.Matrix.{Matrix, Entries, put_at, played}
 use Rattle.matrix.specs.Terms.{Terms, told, left_by, put_outcome, put_after, puts_outcome, puts_after}
 use Rattle.matrix.proofs.Puts.{Leads, Comes, leads_start, leads_by, leads_put, leads_refused, leads_end, puts_outcome-++, puts_after-++, accepted_played}
-use Rattle.complex.specs.Systems.{System, starting}
+use Rattle.complex.specs.Systems.{starting}
 use Rattle.homology.specs.Reduction.{column_puts, loading}
 use Rattle.reduction.specs.Grids.{code_of, codes_of, system_of, height_of, width_of}
 

@@ -1,8 +1,8 @@
 -- The whole of a reduction in a store: loaded, reduced and read off, or refused with all its puts.
-use Rattle.std.proofs.Common.{◌≡◌, ℕ, ◌+◌, ◌-◌, ◌<◌, ◌≤◌, Bool, true, false, cond, eqb, List, ◌++◌, length, drop, None, Ok, Err, Result, sym, refl, ap, ◌∙◌, subst, arith}
+use Rattle.std.proofs.Common.{◌≡◌, ℕ, ◌+◌, ◌-◌, ◌<◌, Bool, true, false, cond, eqb, List, ◌++◌, length, drop, None, Ok, Err, Result, sym, ap, ◌∙◌, subst, arith}
 use Rattle.refusal.specs.declared.Refusal.{Refusal}
 use Rattle.refusal.specs.Numbers.{number_of}
-use Rattle.refusal.specs.Outcomes.{accepted, refused, and_then}
+use Rattle.refusal.specs.Outcomes.{refused, and_then}
 use Rattle.field.specs.Arithmetic.{Arithmetic, FieldLaws}
 use Rattle.matrix.specs.declared.put.Put.{Put}
 use Rattle.matrix.specs.Matrix.{Matrix, over, played}
@@ -16,9 +16,8 @@ use Rattle.homology.proofs.Columns.{starting_codes}
 use Rattle.homology.proofs.Ending.{reduction_ends_lem}
 use Rattle.homology.proofs.Listing.{length_listed}
 use Rattle.homology.proofs.Putting.{loading_loads, starting_outside}
-use Rattle.reduction.specs.declared.solve.Verdict.{Verdict}
 use Rattle.reduction.specs.Progress.{left, left_outcome, Ready, Onward, Stops}
-use Rattle.reduction.specs.Verdicts.{empty, verdict, answer_codes, Worked}
+use Rattle.reduction.specs.Verdicts.{empty, verdict, Worked}
 use Rattle.reduction.proofs.Steps.{ended_matrix, ended_additions, ended_puts}
 
 module _ (F : Arithmetic) (f : FieldLaws F) (S : System) (coded : CodedSystem F S) (t : Terms) where

@@ -1,4 +1,6 @@
 // Runs of off, on, certify and thin, and what every run keeps. Each function stands for a theorem, which is its contract.
+#![tactic(auto)]
+
 ghost use Rattle.runs.specs.Runs.{EveryRun};
 ghost use Rattle.runs.specs.Theorems.{OneStep, ThinDrops, FenceStaysOn, StopsAtTrial, KeepsPromises};
 

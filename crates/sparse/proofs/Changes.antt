@@ -1,5 +1,5 @@
 -- One cell changed: what the cells hold then, and what else stays.
-use Rattle.std.proofs.Common.{◌≡◌, ℕ, ◌-◌, ◌<◌, ◌≤◌, true, false, cond, ◌&&◌, eqb, leb, ◌⊎◌, List, length, sym, ap, ◌∙◌, inl, inr, ⊎_elim, arith}
+use Rattle.std.proofs.Common.{◌≡◌, ℕ, ◌<◌, ◌≤◌, true, false, cond, ◌&&◌, eqb, leb, ◌⊎◌, List, length, sym, ap, ◌∙◌, inl, inr, ⊎_elim, arith}
 use Rattle.std.proofs.lemmas.Bool.{cond-true, cond-false, eq-eqb, cases_eq, cases_Bool, and_parts, and_from, eqb-true, leb-true, both_ways}
 use Rattle.matrix.specs.Matrix.{inside, put_at, put_into}
 use Rattle.matrix.proofs.Matrices.{same_entries}

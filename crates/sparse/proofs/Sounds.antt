@@ -1,5 +1,5 @@
 -- What a store keeps true can be decided, so that it is had from its being known.
-use Rattle.std.proofs.Common.{◌≡◌, ℕ, ◌-◌, ◌<◌, ◌≤◌, Bool, true, false, ◌⊎◌, List, ⊎_elim, arith}
+use Rattle.std.proofs.Common.{◌≡◌, ℕ, ◌<◌, ◌≤◌, Bool, true, false, List, ⊎_elim, arith}
 use Rattle.std.proofs.lemmas.Bool.{cases_eq, cases_lt, cases_Bool, both_ways}
 use Rattle.sparse.specs.declared.cell.Cell.{Cell}
 use Rattle.sparse.specs.Chains.{Chained, Walkable}

@@ -1,5 +1,5 @@
 -- The three ways of a put, as the code goes them, and what the store answers.
-use Rattle.std.proofs.Common.{◌≡◌, ℕ, ◌+◌, ◌-◌, ◌<◌, ◌≤◌, min, true, false, cond, not, ◌&&◌, eqb, ltb, leb, ◌⊎◌, List, length, set, sym, refl, ap, ◌∙◌, ⊎_elim, arith}
+use Rattle.std.proofs.Common.{◌≡◌, ℕ, ◌+◌, ◌-◌, ◌<◌, ◌≤◌, min, true, false, cond, not, ◌&&◌, eqb, ltb, leb, List, length, set, sym, refl, ap, ◌∙◌, ⊎_elim, arith}
 use Rattle.std.proofs.lemmas.Bool.{cases_eq, cases_Bool, cond-true, cond-false, eq-eqb, ne_eqb, eqb-true, and_left, and_right, and_from, and_parts, lt-ltb, lt-leb, le-leb, leb-true, not_from_true, not_from_false}
 use Rattle.refusal.specs.declared.Refusal.TheVariants.{StoreFull, OutsideShape}
 use Rattle.refusal.specs.Numbers.{number_of}

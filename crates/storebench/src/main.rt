@@ -1,4 +1,6 @@
 // One operation on a store, at a size, for counting instructions: storebench WHAT SIZE.
+#![tactic(auto)]
+
 use field::gfp::GfP;
 use matrix::grid::Grid;
 use matrix::store::Store;

@@ -1,5 +1,5 @@
 -- A scan of the places of one column finds its next nonzero row.
-use Rattle.std.proofs.Common.{◌≡◌, ℕ, zero, ◌+◌, ◌-◌, ◌*◌, ◌<◌, ◌≤◌, max, true, false, ◌⊎◌, Some, None, sym, ap, ◌∙◌, ⊎_elim, mul_comm, add-mul, arith}
+use Rattle.std.proofs.Common.{◌≡◌, ℕ, ◌+◌, ◌-◌, ◌*◌, ◌<◌, ◌≤◌, max, true, false, Some, None, sym, ap, ◌∙◌, ⊎_elim, mul_comm, add-mul, arith}
 use Rattle.std.proofs.lemmas.Nat.{mul-le}
 use Rattle.std.proofs.lemmas.Bool.{cases_Bool}
 use Rattle.matrix.specs.Matrix.{inside}

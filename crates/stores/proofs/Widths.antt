@@ -1,7 +1,7 @@
 -- What the width of an entry says of bytes, codes and places.
-use Rattle.std.proofs.Common.{◌≡◌, ℕ, zero, suc, ◌+◌, ◌-◌, ◌*◌, ◌/◌, ◌%◌, ◌^◌, ◌<◌, ◌≤◌, min, ◌⊎◌, List, get_or, sym, ap, ◌∙◌, ⊎_elim, mul_assoc, mul_comm, add-mul, mul-add, arith}
+use Rattle.std.proofs.Common.{◌≡◌, ℕ, zero, suc, ◌+◌, ◌-◌, ◌*◌, ◌/◌, ◌%◌, ◌^◌, ◌<◌, ◌≤◌, min, List, get_or, sym, ap, ◌∙◌, ⊎_elim, mul_assoc, mul_comm, add-mul, mul-add, arith}
 use native.Mathlib.Nat.{zero-div, zero-mod}
-use Rattle.std.proofs.lemmas.Nat.{mul-le, mod_below, div_below, div-add-mod', div-mul-add, pow_below}
+use Rattle.std.proofs.lemmas.Nat.{mul-le, mod_below, div_below, div-add-mod', pow_below}
 use Rattle.std.proofs.lemmas.Bool.{cases_lt, cases_eq}
 use Rattle.stores.specs.Packed.{per_byte_of, code_in, code_at, bytes_for}
 

@@ -1,4 +1,6 @@
 // Stores over memory that is lent to them.
+#![tactic(auto)]
+
 pub mod dense;
 mod packed;
 pub mod width;

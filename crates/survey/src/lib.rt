@@ -1,4 +1,6 @@
 // Surveys: sensors, which of them name each other as neighbours, and the fence round a hall.
+#![tactic(auto)]
+
 mod counts;
 pub mod edge;
 pub mod fence;

@@ -1,5 +1,5 @@
 -- The S line, from its parts.
-use Rattle.std.proofs.Common.{◌≡◌, ℕ, Bool, true, false, cond, ◌&&◌, leb, List, [], drop, sym, refl, ap, ◌∙◌}
+use Rattle.std.proofs.Common.{◌≡◌, ℕ, true, false, cond, ◌&&◌, leb, List, [], drop, sym, ap, ◌∙◌}
 use Rattle.std.proofs.lemmas.Bool.{cond-true}
 use Rattle.refusal.specs.Outcomes.{Outcome, accepted, refused, and_then}
 use Rattle.refusal.proofs.Outcomes.{taken_parts, same_from_accepted}

@@ -1,7 +1,7 @@
 -- An N line from its parts, and all of them one after another.
-use Rattle.std.proofs.Common.{◌≡◌, ℕ, zero, suc, ◌+◌, ◌-◌, ◌<◌, ◌≤◌, Bool, true, false, cond, not, ◌&&◌, ◌||◌, eqb, ltb, leb, List, [], ◌∷◌, ◌++◌, length, get_or, take, drop, Some, None, Ok, Err, Option, Result, sym, refl, ap, ◌∙◌, subst, inl, inr, append_assoc, append-nil, arith, length-append}
+use Rattle.std.proofs.Common.{◌≡◌, ℕ, zero, suc, ◌+◌, ◌-◌, ◌<◌, ◌≤◌, Bool, true, false, cond, ◌&&◌, ◌||◌, eqb, List, [], ◌∷◌, ◌++◌, length, get_or, take, drop, Some, None, Ok, Err, Option, Result, sym, refl, ap, ◌∙◌, inl, inr, append_assoc, append-nil, arith, length-append}
 use mathlib.Core.Bool.{or-false}
-use Rattle.std.proofs.lemmas.Bool.{cases_Bool, cases_eq, and_parts, ltb-true, leb-true, eq-eqb, ne_eqb, cond-true, cond-false}
+use Rattle.std.proofs.lemmas.Bool.{cases_Bool, and_parts, ltb-true, leb-true, eq-eqb, ne_eqb, cond-true, cond-false}
 use Rattle.std.proofs.lemmas.Bool.Decides.{nat_tests}
 use Rattle.refusal.specs.declared.Refusal.{Refusal}
 use Rattle.refusal.specs.Numbers.{number_of}
@@ -10,7 +10,7 @@ use Rattle.survey.specs.declared.neighbours.Neighbours.{Neighbours}
 use Rattle.survey.specs.Lists.{member}
 use Rattle.survey.specs.Tables.{at}
 use Rattle.text.specs.Reading.{Read, byte, formed, a_number, a_list, rising, a_sensor_line, row_before, sensor_lines_of, names}
-use Rattle.text.specs.Lines.{behind, ListRead, NamesAll, LineRead, LinesRead, FenceRead}
+use Rattle.text.specs.Lines.{behind, ListRead, LineRead, LinesRead, FenceRead}
 
 -- what a rising list says of its first element, and of the others
 rising_first : (n x before y : ℕ) (ys : List ℕ) → rising n x before (y ∷ ys) ≡ true → (before < y) × (y ≤ n) × (rising n x y ys ≡ true)

@@ -1,15 +1,15 @@
 -- The token at a place, by the character there.
-use Rattle.std.proofs.Common.{◌≡◌, ℕ, ◌+◌, ◌<◌, ◌≤◌, Bool, true, false, cond, eqb, ◌⊎◌, List, [], ◌∷◌, length, get_or, drop, Some, None, Option, sym, refl, ap, ◌∙◌, subst, inl, inr, arith, length-drop}
+use Rattle.std.proofs.Common.{◌≡◌, ℕ, ◌+◌, ◌<◌, ◌⊎◌, List, [], ◌∷◌, length, get_or, drop, Some, None, Option, sym, ap, ◌∙◌, inl, inr, arith}
 use Rattle.std.proofs.lemmas.List.{at_drop_more, drop-drop}
 use Rattle.refusal.specs.Outcomes.{accepted}
 use Rattle.text.specs.declared.symbol.Symbol.{Symbol}
 use Rattle.text.specs.declared.symbol.Symbol.TheVariants.{Survey, Sensor, Fence, End, Space, LineEnd, Digit, Other}
 use Rattle.std.proofs.lemmas.Bool.{cond-true, eq-eqb}
 use Rattle.std.proofs.lemmas.Bool.Decides.{nat_tests}
-use Rattle.text.specs.Columns.{and_next, lead}
+use Rattle.text.specs.Columns.{and_next}
 use Rattle.text.specs.Reading.{number_first, byte, formed}
 use Rattle.text.specs.Symbols.{symbol_of}
-use Rattle.text.specs.Tokens.{Part, number, mark, line_end, part_by, part_first}
+use Rattle.text.specs.Tokens.{number, mark, line_end, part_by, part_first}
 
 module _ (s : List ℕ) (at : ℕ) (k : Symbol) where
   -- the character at a place tells what kind of token is there

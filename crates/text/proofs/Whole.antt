@@ -1,5 +1,5 @@
 -- A survey from its lines: what reading comes to once they are read.
-use Rattle.std.proofs.Common.{◌≡◌, ℕ, ◌+◌, ◌-◌, ◌<◌, ◌≤◌, Bool, true, false, cond, ◌&&◌, leb, List, [], ◌++◌, length, take, drop, IfOk, Ok, Err, Result, sym, refl, ap, ◌∙◌, inl, inr, arith, length-append, length-drop}
+use Rattle.std.proofs.Common.{◌≡◌, ℕ, ◌+◌, ◌-◌, ◌<◌, ◌≤◌, Bool, false, ◌&&◌, leb, List, ◌++◌, length, take, drop, IfOk, Ok, Err, Result, sym, ap, ◌∙◌, inl, inr, arith, length-append, length-drop}
 use mathlib.Core.Path.{fun_ext}
 use lib.Seq.{take-append-le, take-length}
 use Rattle.std.proofs.lemmas.Bool.{cases_Bool, and_parts, cond-false}

@@ -1,8 +1,8 @@
 -- What the functions that read a line leave, by what the definitions read.
-use Rattle.std.specs.Prelude.{◌≡◌, ℕ, ◌≤◌, Bool, true, false, ◌&&◌, ◌||◌, List, length, take, drop, Some, None, Ok, Err, Option, Result, ◌==◌}
+use Rattle.std.specs.Prelude.{◌≡◌, ℕ, ◌≤◌, true, false, ◌&&◌, ◌||◌, List, length, take, drop, Some, None, Ok, Err, Option, Result, ◌==◌}
 use Rattle.refusal.specs.declared.Refusal.{Refusal}
 use Rattle.refusal.specs.Numbers.{number_of}
-use Rattle.refusal.specs.Outcomes.{Outcome, accepted, refused}
+use Rattle.refusal.specs.Outcomes.{accepted, refused}
 use Rattle.survey.specs.declared.neighbours.Neighbours.{Neighbours}
 use Rattle.survey.specs.declared.plan.Survey.{Survey as Plan}
 use Rattle.survey.specs.Lists.{member}
@@ -12,7 +12,7 @@ use Rattle.survey.specs.Tables.{at}
 use Rattle.text.specs.Columns.{and_next}
 use Rattle.text.specs.Reading.{Read, byte, rising, count_line_of, a_sensor_line, sensor_lines_of, names, fence_line_of}
 use Rattle.text.specs.Symbols.{symbol_of}
-use Rattle.text.specs.Tokens.{Part, mark, part_by}
+use Rattle.text.specs.Tokens.{mark, part_by}
 
 -- a token by itself
 abbrev pub IsMark : ℕ → Type 0

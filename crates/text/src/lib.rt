@@ -1,4 +1,6 @@
 // A survey's text: its characters, number columns and tokens, and reading and writing it.
+#![tactic(auto)]
+
 pub mod column;
 mod line;
 mod parts;

@@ -1,3 +1,5 @@
+#![tactic(auto)]
+
 // Tests of reading, writing and the rules on large and odd inputs, of the complex, of the stores and of the reduction.
 #[cfg(test)]
 mod reductions;

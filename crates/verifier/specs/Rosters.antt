@@ -1,5 +1,5 @@
 -- What a roster means: its survey, and the sensors that are on.
-use Rattle.std.specs.Prelude.{◌≡◌, ℕ, ◌≤◌, Bool, true, false, cond, not, ◌&&◌, ◌||◌, List, Some, None, Option, ◌==◌, nat_le}
+use Rattle.std.specs.Prelude.{◌≡◌, ℕ, Bool, true, false, cond, not, ◌&&◌, ◌||◌, List, Some, None, Option, ◌==◌, nat_le}
 use Rattle.refusal.specs.Outcomes.{Outcome, accepted, refused}
 use Rattle.survey.specs.Lists.{member}
 use Rattle.survey.specs.Plans.{survey_of}

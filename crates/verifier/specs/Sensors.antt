@@ -1,5 +1,5 @@
 -- The table of a roster's sensors.
-use Rattle.std.specs.Prelude.{◌≡◌, ℕ, ◌<◌, Bool, true, false, List, slice_index_or}
+use Rattle.std.specs.Prelude.{◌≡◌, ℕ, Bool, true, false, List, slice_index_or}
 use Rattle.survey.specs.declared.plan.Survey.{Survey as Plan}
 use Rattle.survey.specs.Lists.{member}
 use Rattle.survey.specs.Plans.{survey_of}

@@ -1,5 +1,5 @@
 -- Numbers of 32 bits hold the multipliers, so that the code's are those of Euclid's divisions.
-use Rattle.std.proofs.Common.{◌≡◌, ℕ, ◌+◌, ◌*◌, ◌/◌, ◌%◌, ◌^◌, ◌<◌, ◌≤◌, max, ℤ, pos, ◌-ℤ◌, ◌*ℤ◌, nat_abs, mod-lt, mul-le-mul_left, arith, w32, SFits, to_z, of_z}
+use Rattle.std.proofs.Common.{◌≡◌, ℕ, ◌+◌, ◌*◌, ◌/◌, ◌%◌, ◌^◌, ◌<◌, ◌≤◌, max, ℤ, pos, ◌-ℤ◌, ◌*ℤ◌, nat_abs, mod-lt, mul-le-mul_left, arith, w32, to_z, of_z}
 use native.Mathlib.Nat.{div-add-mod}
 use Rattle.std.proofs.lemmas.Int.{ints, to_z-of_z, to_z_pos}
 use Rattle.field.specs.Divisors.{Bezout}

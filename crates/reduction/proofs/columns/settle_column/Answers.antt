@@ -1,11 +1,11 @@
 -- Each turn makes the addition that is due to the column, which clears its low.
-use Rattle.std.proofs.Common.{◌≡◌, ℕ, ◌+◌, ◌-◌, ◌<◌, ◌≤◌, length, Err, sym, refl, ap, ◌∙◌, subst, arith}
+use Rattle.std.proofs.Common.{◌+◌, ◌-◌, Err, sym, refl, ap, ◌∙◌, subst, arith}
 use Rattle.std.proofs.lemmas.Result.{err_from_is_err_and}
 use Rattle.matrix.specs.Multiples.{adding}
 use Rattle.matrix.specs.Terms.{puts_outcome, puts_after}
 use Rattle.homology.proofs.Lows.{low_most}
 use Rattle.reduction.specs.Progress.{Settles}
-use Rattle.reduction.proofs.Settling.{InColumn, Asked, enough_small, in_column_none, in_column_row, in_column_few, in_column_stops, in_column_more, in_column_all}
+use Rattle.reduction.proofs.Settling.{InColumn, enough_small, in_column_none, in_column_row, in_column_few, in_column_stops, in_column_more, in_column_all}
 use Rattle.reduction.proofs.Shapes.{of_shape}
 use Rattle.reduction.proofs.columns.settle_column.Goals as goal
 

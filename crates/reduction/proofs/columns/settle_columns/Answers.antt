@@ -1,5 +1,5 @@
 -- A column that is reduced goes on from those before it, and its low is entered in the table.
-use Rattle.std.proofs.Common.{◌≡◌, ℕ, ◌+◌, ◌-◌, ◌<◌, ◌≤◌, Ok, Err, sym, refl, ap, ◌∙◌, subst, arith}
+use Rattle.std.proofs.Common.{◌+◌, Err, sym, refl, ap, ◌∙◌, subst, arith}
 use Rattle.std.proofs.lemmas.Result.{err_from_is_err_and}
 use Rattle.reduction.specs.Progress.{ColumnSettled, Settles, SettlesAll}
 use Rattle.reduction.proofs.Settling.{InColumns, in_columns_none, in_columns_stops, in_columns_dead, in_columns_more, settled_inside}

@@ -1,5 +1,5 @@
 -- Each row whose owner has a nonzero entry in the last column takes one addition, and is quiet then.
-use Rattle.std.proofs.Common.{◌≡◌, ℕ, ◌+◌, ◌-◌, ◌<◌, ◌≤◌, Err, sym, refl, ap, ◌∙◌, subst, inl, inr, arith}
+use Rattle.std.proofs.Common.{◌≡◌, ◌+◌, ◌-◌, Err, sym, refl, ap, ◌∙◌, subst, inl, inr, arith}
 use Rattle.std.proofs.lemmas.Result.{err_from_is_err_and}
 use Rattle.matrix.specs.Multiples.{adding}
 use Rattle.matrix.specs.Terms.{puts_outcome, puts_after}

@@ -1,5 +1,5 @@
 -- Column by column, the puts still to come are those of the columns still to come.
-use Rattle.std.proofs.Common.{◌≡◌, ℕ, suc, ◌+◌, ◌-◌, ◌<◌, ◌≤◌, ◌++◌, sym, refl, ap, ◌∙◌, subst, add-one, arith}
+use Rattle.std.proofs.Common.{◌≡◌, suc, ◌+◌, ◌-◌, ◌++◌, sym, refl, ap, ◌∙◌, add-one, arith}
 use Rattle.std.proofs.lemmas.Result.{err_from_is_err_and}
 use Rattle.matrix.specs.Terms.{puts_outcome, puts_after}
 use Rattle.matrix.proofs.Puts.{leads_start, leads_by, leads_end}

@@ -1,5 +1,5 @@
 -- Each row that is not 0 puts its code, and the rows passed on the way put nothing.
-use Rattle.std.proofs.Common.{◌≡◌, ℕ, ◌+◌, ◌-◌, ◌<◌, ◌≤◌, sym, refl, ap, ◌∙◌, subst, arith}
+use Rattle.std.proofs.Common.{◌-◌, sym, refl, ap, ◌∙◌, subst, arith}
 use Rattle.std.proofs.lemmas.Result.{err_from_is_err_and}
 use Rattle.matrix.specs.Matrix.{put_at}
 use Rattle.matrix.specs.Terms.{put_outcome, put_after}

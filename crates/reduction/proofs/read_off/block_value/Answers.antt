@@ -1,5 +1,5 @@
 -- By the owner of the row, and by whether it is the greatest row that is left.
-use Rattle.std.proofs.Common.{◌≡◌, ℕ, ◌+◌, ◌≤◌, sym, ◌∙◌, arith}
+use Rattle.std.proofs.Common.{◌+◌, sym, ◌∙◌, arith}
 use Rattle.reduction.proofs.Values.{value_owned, value_top, value_none}
 use Rattle.reduction.proofs.read_off.block_value.Goals as goal
 

@@ -1,5 +1,5 @@
 -- Rows that are 0 are passed, and each other row adds its product.
-use Rattle.std.proofs.Common.{◌≡◌, ℕ, ◌+◌, ◌-◌, ◌<◌, ◌≤◌, sym, refl, ap, ◌∙◌, arith}
+use Rattle.std.proofs.Common.{◌≡◌, ◌+◌, ◌-◌, sym, ap, ◌∙◌, arith}
 use Rattle.homology.specs.Linear.{total}
 use Rattle.reduction.proofs.Values.{term, weighted_skip, weighted_more}
 use Rattle.reduction.proofs.read_off.weighted.Goals as goal

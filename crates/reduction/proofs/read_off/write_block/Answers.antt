@@ -1,5 +1,5 @@
 -- Each turn writes the value of a row behind those of the rows before it, which the next ones leave.
-use Rattle.std.proofs.Common.{◌≡◌, ℕ, ◌+◌, ◌<◌, ◌≤◌, ◌++◌, length, drop, set, sym, refl, ap, ◌∙◌, arith}
+use Rattle.std.proofs.Common.{◌≡◌, ◌+◌, ◌++◌, drop, set, sym, refl, ap, ◌∙◌, arith}
 use Rattle.homology.specs.Certificate.{listed, values, vector}
 use Rattle.reduction.proofs.Listing.{listed_more, listed_same, vector_front}
 use Rattle.reduction.proofs.Values.{values_before}

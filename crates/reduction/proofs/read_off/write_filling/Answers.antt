@@ -1,5 +1,5 @@
 -- Each turn writes the coefficient behind those before it.
-use Rattle.std.proofs.Common.{◌≡◌, ℕ, ◌+◌, ◌<◌, ◌≤◌, ◌++◌, length, drop, set, sym, refl, ap, ◌∙◌, arith}
+use Rattle.std.proofs.Common.{◌≡◌, ◌+◌, ◌++◌, drop, set, refl, ap, ◌∙◌, arith}
 use Rattle.complex.specs.Systems.{Vector}
 use Rattle.homology.specs.Certificate.{listed}
 use Rattle.reduction.proofs.Listing.{listed_more}

@@ -1,8 +1,8 @@
 -- By each way that the function ends.
-use Rattle.std.proofs.Common.{◌≡◌, ℕ, ◌+◌, ◌-◌, ◌<◌, ◌≤◌, max, length, Ok, Err, sym, refl, ap, ◌∙◌, subst, inl, inr, arith}
+use Rattle.std.proofs.Common.{◌≡◌, ◌+◌, ◌-◌, ◌≤◌, max, length, Err, sym, refl, ap, ◌∙◌, subst, inl, inr, arith}
 use Rattle.std.proofs.lemmas.Result.{err_from_is_err_and}
 use Rattle.refusal.specs.declared.Refusal.TheVariants.{ShapeNotTaken}
-use Rattle.matrix.specs.Terms.{told, begin_outcome, begin_after}
+use Rattle.matrix.specs.Terms.{told, begin_after}
 use Rattle.reduction.specs.Grids.{system_of, height_of, width_of}
 use Rattle.reduction.specs.Verdicts.{Works}
 use Rattle.reduction.proofs.Solving.{Way, way_itself, way_systems, way_short, way_large, way_rows, way_columns, way_shape, way_worked, begun_empty}

@@ -1,10 +1,10 @@
 -- Loaded, reduced and read off; a refusal on the way is that of all puts together. The system is the one that the grid is
 -- read as, with its shape in the code's own words.
-use Rattle.std.proofs.Common.{◌≡◌, ℕ, ◌+◌, ◌<◌, ◌≤◌, replicate, Ok, Err, sym, refl, ap, ◌∙◌, subst, arith}
+use Rattle.std.proofs.Common.{ℕ, ◌+◌, replicate, Err, sym, refl, ap, ◌∙◌, subst, arith}
 use lib.ListN.{length-replicate}
 use Rattle.std.proofs.lemmas.Result.{err_from_is_err_and}
 use Rattle.matrix.specs.Terms.{puts_outcome, puts_after}
-use Rattle.complex.specs.Systems.{System, starting}
+use Rattle.complex.specs.Systems.{starting}
 use Rattle.homology.specs.Reduction.{loading}
 use Rattle.reduction.specs.Progress.{SettlesAll, Clears, Cleared, AllSettled}
 use Rattle.reduction.specs.Verdicts.{empty, Works, Worked}

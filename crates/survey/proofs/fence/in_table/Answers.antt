@@ -1,5 +1,5 @@
 -- One element more is copied.
-use Rattle.std.proofs.Common.{◌≡◌, ◌<◌, ◌≤◌, List, [], ◌∷◌, ◌++◌, length, get_or, take, sym, ap, ◌∙◌, arith, length-set}
+use Rattle.std.proofs.Common.{◌≡◌, [], ◌∷◌, ◌++◌, length, get_or, take, sym, ap, ◌∙◌, arith, length-set}
 use lib.Seq.{take-length}
 use Rattle.std.proofs.lemmas.List.{take_more, take_more_set}
 use Rattle.survey.proofs.fence.in_table.Goals as goal

@@ -1,5 +1,5 @@
 -- One step more has a link, or the fence is not closed.
-use Rattle.std.proofs.Common.{◌≡◌, true, false, [], get_or, drop, sym, refl, ap, ◌∙◌}
+use Rattle.std.proofs.Common.{true, false, [], get_or, sym, ap, ◌∙◌}
 use Rattle.std.proofs.lemmas.List.{at_drop_all}
 use Rattle.survey.specs.Surveys.{all_linked, steps_from}
 use Rattle.survey.specs.Views.{drawn}

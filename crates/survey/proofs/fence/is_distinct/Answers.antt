@@ -1,9 +1,9 @@
 -- One sensor more is met, and the rest is judged by it.
-use Rattle.std.proofs.Common.{◌≡◌, ℕ, ◌+◌, ◌<◌, ◌≤◌, Bool, true, false, not, ◌&&◌, leb, List, length, get_or, drop, set, sym, refl, ap, ◌∙◌, arith, length-set}
+use Rattle.std.proofs.Common.{◌≡◌, ℕ, ◌+◌, ◌<◌, ◌≤◌, Bool, true, false, not, ◌&&◌, leb, List, length, get_or, drop, sym, refl, ap, ◌∙◌, arith, length-set}
 use mathlib.Core.Path.{fun_ext}
 use Rattle.std.proofs.lemmas.List.{at_drop_all}
 use Rattle.std.proofs.lemmas.Bool.{and_parts, leb-true}
-use Rattle.survey.specs.Surveys.{Sensors, distinct, meeting}
+use Rattle.survey.specs.Surveys.{Sensors, distinct}
 use Rattle.survey.proofs.Tables.{getD_one_value, getD_set_true}
 use Rattle.survey.proofs.Fences.{distinct_met}
 use Rattle.survey.proofs.fence.is_distinct.Goals as goal

@@ -1,5 +1,5 @@
 -- Those still to come are judged by those met.
-use Rattle.std.proofs.Common.{◌≡◌, ◌≤◌, false, length, get_or, drop}
+use Rattle.std.proofs.Common.{◌≡◌, false, length, get_or, drop}
 use Rattle.survey.specs.Surveys.{distinct, nobody}
 use Rattle.survey.proofs.fence.is_distinct.Given as goal
 

@@ -1,5 +1,5 @@
 -- One neighbour more is named, or the list does not rise.
-use Rattle.std.proofs.Common.{◌≡◌, sym, refl, ap, ◌∙◌}
+use Rattle.std.proofs.Common.{refl}
 use Rattle.std.proofs.lemmas.Result.{err_from_is_err_and}
 use Rattle.text.proofs.Naming.{names_on_none, names_on_stops, names_on_refused, names_on_more, names_on_all}
 use Rattle.text.proofs.line.name_all.Goals as goal

@@ -1,5 +1,5 @@
 -- One number more is read, or the list is at its end.
-use Rattle.std.proofs.Common.{◌≡◌, ◌+◌, ◌<◌, length, drop, set, Ok, Err, sym, refl, ap, ◌∙◌, subst, arith, length-set, rules}
+use Rattle.std.proofs.Common.{◌≡◌, ◌+◌, length, drop, Ok, Err, ap, ◌∙◌, subst, arith, rules}
 use Rattle.std.proofs.lemmas.List.{drop-drop}
 use Rattle.text.specs.Reading.{a_list, led_by}
 use Rattle.text.proofs.Lists.{OnWith, on_with_none, on_with_more, a_list_number, list_read}

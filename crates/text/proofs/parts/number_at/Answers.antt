@@ -1,9 +1,8 @@
 -- The number and the place behind its four bytes.
-use Rattle.std.proofs.Common.{◌≡◌, drop, sym, ap, ◌∙◌, rules}
+use Rattle.std.proofs.Common.{drop, sym, ap, ◌∙◌, rules}
 use Rattle.std.proofs.lemmas.List.{drop-drop}
 use Rattle.refusal.specs.Outcomes.{accepted}
 use Rattle.text.specs.Reading.{formed}
-use Rattle.text.specs.Lines.{number_behind}
 use Rattle.text.proofs.Lists.{a_number_first}
 use Rattle.text.proofs.parts.number_at.Goals as goal
 

@@ -1,5 +1,5 @@
 -- The survey is judged once its lines are read.
-use Rattle.std.proofs.Common.{◌≡◌, ℕ, List, drop, sym, ap, ◌∙◌, arith, rules}
+use Rattle.std.proofs.Common.{ℕ, List, drop, sym, ap, ◌∙◌, arith, rules}
 use Rattle.std.proofs.lemmas.Result.{err_from_is_err_and}
 use Rattle.refusal.specs.Outcomes.{and_then}
 use Rattle.survey.specs.Surveys.{judged}

@@ -1,8 +1,8 @@
 -- The character at the place tells the token.
-use Rattle.std.proofs.Common.{get_or, drop, sym, refl, ap, ◌∙◌, rules}
+use Rattle.std.proofs.Common.{sym, refl, ap, ◌∙◌, rules}
 use Rattle.std.proofs.lemmas.List.{take_rest, at_drop_all}
 use Rattle.text.specs.Reading.{number_first}
-use Rattle.text.specs.Tokens.{part_first, part_by}
+use Rattle.text.specs.Tokens.{part_first}
 use Rattle.text.proofs.Tokens.{part_at, mark_by, number_at}
 use Rattle.text.proofs.token.next_token.Goals as goal
 

@@ -1,5 +1,5 @@
 -- The scan of the column's places finds its next nonzero row.
-use Rattle.std.proofs.Common.{◌+◌, ◌-◌, ◌*◌, max, subst, arith}
+use Rattle.std.proofs.Common.{◌+◌, ◌-◌, ◌*◌, subst, arith}
 use Rattle.std.proofs.lemmas.Nat.{mul-le}
 use Rattle.stores.specs.Packed.{code_at, Scanned}
 use Rattle.stores.proofs.Scans.{column_end, scan_outside, scan_found, scan_none}

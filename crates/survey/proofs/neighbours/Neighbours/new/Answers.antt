@@ -1,9 +1,8 @@
 -- A table of false names nobody.
-use Rattle.std.proofs.Common.{◌≡◌, ℕ, ◌≤◌, Bool, true, false, ◌&&◌, leb, [], sym, ap, ◌∙◌, true≢false, arith}
+use Rattle.std.proofs.Common.{◌≡◌, ℕ, Bool, true, ◌&&◌, leb, [], sym, ap, ◌∙◌, true≢false, arith}
 use mathlib.Core.Path.{fun_ext}
 use Rattle.std.proofs.lemmas.Bool.{le-leb, and_from, cond-true}
 use Rattle.refusal.specs.Outcomes.{accepted}
-use Rattle.survey.specs.Surveys.{Survey}
 use Rattle.survey.proofs.Tables.{at_blank}
 use Rattle.survey.proofs.neighbours.Neighbours.new.Goals as goal
 

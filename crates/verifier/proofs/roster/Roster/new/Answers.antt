@@ -1,10 +1,9 @@
 -- Every sensor begins on; then those of the fence are marked.
-use Rattle.std.proofs.Common.{◌≡◌, ℕ, ◌<◌, ◌≤◌, Bool, List, length, get_or, take, sym, refl, ap, ◌∙◌, subst, arith, length-set, take_all}
+use Rattle.std.proofs.Common.{◌≡◌, ℕ, ◌<◌, Bool, List, length, get_or, refl, ap, ◌∙◌, subst, arith, length-set, take_all}
 use Rattle.survey.specs.declared.plan.Survey.{Survey as Plan}
 use Rattle.survey.specs.Plans.{survey_of}
 use Rattle.survey.specs.Surveys.{nobody}
 use Rattle.survey.proofs.Fences.{getD_within}
-use Rattle.verifier.specs.Rosters.{Meaning}
 use Rattle.verifier.specs.Sensors.{Marked}
 use Rattle.verifier.proofs.Tables.{marked_none, marked_more, all_on_none, all_on_more, on_is_all}
 use Rattle.verifier.proofs.roster.Roster.new.Goals as goal

@@ -1,5 +1,5 @@
 -- With the fence, every sensor that is on is chosen.
-use Rattle.std.proofs.Common.{◌≡◌, Bool, true, false, ◌&&◌, sym, refl, ap, ◌∙◌}
+use Rattle.std.proofs.Common.{◌≡◌, Bool, true, false, ◌&&◌, refl, ◌∙◌}
 use mathlib.Core.Path.{fun_ext}
 use Rattle.verifier.specs.Rosters.{meaning_of}
 use Rattle.verifier.proofs.roster.Roster.sensors_on.Goals as goal

@@ -1,11 +1,10 @@
 -- The record says what the roster means.
-use Rattle.std.proofs.Common.{◌≡◌, ℕ, ◌<◌, ◌≤◌, Bool, true, cond, ◌&&◌, List, length, get_or, Some, sym, refl, ap, ◌∙◌, arith, rules}
+use Rattle.std.proofs.Common.{◌≡◌, ℕ, ◌<◌, true, cond, ◌&&◌, length, get_or, Some, sym, ap, ◌∙◌, arith, rules}
 use Rattle.std.proofs.lemmas.List.{get_or_default}
 use Rattle.std.proofs.lemmas.Bool.{le-leb, and_from, cond-true}
 use Rattle.survey.specs.Lists.{member}
 use Rattle.verifier.specs.declared.roster.Roster.{Roster}
 use Rattle.verifier.specs.declared.sensor.Sensor.{Sensor}
-use Rattle.verifier.specs.declared.sensor.State.{State}
 use Rattle.verifier.specs.declared.sensor.State.TheVariants.{Fence, On, Off}
 use Rattle.verifier.specs.Rosters.{meaning_of, is_sensor, state_in}
 use Rattle.verifier.specs.Sensors.{state_at, is_on}

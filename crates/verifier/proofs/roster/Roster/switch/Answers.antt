@@ -1,7 +1,6 @@
 -- One record changes, and it is not on the fence.
-use Rattle.std.proofs.Common.{◌≡◌, ℕ, ◌<◌, Bool, true, false, length, sym, refl, ap, ◌∙◌, rules}
+use Rattle.std.proofs.Common.{ℕ, Bool, sym, ap, ◌∙◌, rules}
 use Rattle.survey.specs.Plans.{survey_of}
-use Rattle.verifier.specs.Rosters.{Meaning}
 use Rattle.verifier.specs.Sensors.{is_fence_of, is_on}
 use Rattle.verifier.proofs.Tables.{marked_switched, on_switched}
 use Rattle.verifier.proofs.roster.Roster.switch.Goals as goal
