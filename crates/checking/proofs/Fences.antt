@@ -1,6 +1,6 @@
 -- Where the fence is on, its first step is an edge, on which the fence vector is not 0.
 use Rattle.std.proofs.Common.{◌≡◌, ℕ, zero, suc, ◌+◌, ◌<◌, ◌≤◌, Bool, true, false, cond, T, ◌⊎◌, List, [], ◌∷◌, length, sym, refl, ap, ◌∙◌, subst, inl, inr, arith}
-use Rattle.std.specs.List.{AllByRecursion as All}
+use Rattle.std.specs.List.{AllByRecursion}
 use Rattle.std.proofs.lemmas.Bool.{cases_eq, cases_Bool, cases_order, both_ways, and_parts, and_from, or_left, or_right, eq-eqb, lt-ltb, cond-true, cond-false}
 use Rattle.field.specs.Arithmetic.{Arithmetic, FieldLaws}
 use Rattle.field.proofs.Elements.{one_code}
@@ -27,25 +27,25 @@ module _ (F : Arithmetic) (f : FieldLaws F) where
   ]
 
 -- what holds of all that is gathered holds of what each number gives
-all_at : {X : Type 0} (P : X → Type 0) (f : ℕ → List X) (k n x : ℕ) → k ≤ x → x < k + n → All P (gather f (numbers k n)) → All P (f x)
+all_at : {X : Type 0} (P : X → Type 0) (f : ℕ → List X) (k n x : ℕ) → k ≤ x → x < k + n → AllByRecursion P (gather f (numbers k n)) → AllByRecursion P (f x)
 all_at P f k zero x l m h = absurd (omega arith)
 all_at P f k (suc n) x l m h =
     let parts = all_split P (f k) (gather f (numbers (suc k) n)) h in
     elim (cases_eq k x) [
-      | inl same ↦ subst (λ j. All P (f j)) same parts.0
+      | inl same ↦ subst (λ j. AllByRecursion P (f j)) same parts.0
       | inr apart ↦ all_at P f (suc k) n x (omega arith) (omega arith) parts.1
     ]
 
-all_if_true : {X : Type 0} (P : X → Type 0) (b : Bool) (x : X) → b ≡ true → All P (cond b (x ∷ []) []) → P x
+all_if_true : {X : Type 0} (P : X → Type 0) (b : Bool) (x : X) → b ≡ true → AllByRecursion P (cond b (x ∷ []) []) → P x
 all_if_true P true x e h = h.0
 all_if_true P false x e h = absurd (both_ways false refl e)
 
 module _ (s : Survey) (valid : Valid s) (on : Sensors) where
   -- an edge between linked sensors that are on is listed
-  at_edge : (P : Edge → Type 0) (a b : ℕ) → a < b → on a ≡ true → on b ≡ true → s.linked a b ≡ true → All P (edges s on) → P (edge a b)
+  at_edge : (P : Edge → Type 0) (a b : ℕ) → a < b → on a ≡ true → on b ≡ true → s.linked a b ≡ true → AllByRecursion P (edges s on) → P (edge a b)
   at_edge P a b lt x y linked h =
       let ends = valid.inside a b linked in
-      let one : All P (edges_at s on a) = all_at P (edges_at s on) 1 s.count a ends.0 (omega (arith, ends.1)) h in
+      let one : AllByRecursion P (edges_at s on a) = all_at P (edges_at s on) 1 s.count a ends.0 (omega (arith, ends.1)) h in
       all_if_true P (joined s on a b) (edge a b) (and_from _ _ (and_from _ _ (and_from _ _ (lt-ltb a b lt) x) y) linked)
       (all_at P _ 1 s.count b ends.2 (omega (arith, ends.3)) one)
 
@@ -60,7 +60,7 @@ module _ (s : Survey) (valid : Valid s) (on : Sensors) where
     -- the fence vector is 0 on every edge: impossible
     module _ (F : Arithmetic) (f : FieldLaws F) where
       first_step : (u v : ℕ) → s.linked u v ≡ true → has_step_of u v (steps s.fence) ≡ true → fenced s u ≡ true → fenced s v ≡ true
-          → All (λ e. fence_entry F s.fence e ≡ 0) (edges s on) → ⊥
+          → AllByRecursion (λ e. fence_entry F s.fence e ≡ 0) (edges s on) → ⊥
       first_step u v linked step m n h = elim (cases_order u v) [
         | inl same ↦ both_ways (s.linked u u) (valid.apart u) (ap (s.linked u) same ∙ linked)
         | inr way ↦ elim way [
@@ -69,7 +69,7 @@ module _ (s : Survey) (valid : Valid s) (on : Sensors) where
         ]
       ]
 
-      pub fence_not_zero : All (λ e. fence_entry F s.fence e ≡ 0) (edges s on) → ⊥
+      pub fence_not_zero : AllByRecursion (λ e. fence_entry F s.fence e ≡ 0) (edges s on) → ⊥
       fence_not_zero h = from s.fence refl valid.long valid.closed
         where
           from : (fence : List ℕ) → s.fence ≡ fence → 3 ≤ length fence → all_linked s (steps fence) ≡ true → ⊥

@@ -2,7 +2,7 @@
 ghost use Rattle.std.specs.Prelude.{◌≡◌, ◌≤◌, length};
 ghost use Rattle.homology.specs.Certificate.{vector};
 ghost use Rattle.homology.specs.Linear.{combination};
-ghost use Rattle.checking.specs.Equations.{column_sum_of, system_in, solves as solves-system, separates as separates-system};
+ghost use Rattle.checking.specs.Equations.{column_sum_of, system_in, solves as solves_system, separates as separates_system};
 
 use field::Field;
 use matrix::grid::Grid;
@@ -36,7 +36,7 @@ fn column_sum<F: Field, G: Grid>(field: &F, grid: &G, column: u32, codes: &[u16]
 // Do the columns, weighted by the codes, give the next column in the first rows?
 pub(crate) fn solves<F: Field, G: Grid>(field: &F, grid: &G, rows: u32, codes: &[u16]) -> bool
     requires { (rows ≤ 512) × (length codes.now ≤ 1024) }
-    ensures { result ≡ solves-system (F.arithmetic field.now) (system_in rows (length codes.now) (G.holds grid.now)) (vector codes.now) }
+    ensures { result ≡ solves_system (F.arithmetic field.now) (system_in rows (length codes.now) (G.holds grid.now)) (vector codes.now) }
 {
     let target = codes.len() as u32 + 1;
     for row in 1..rows + 1 {
@@ -50,7 +50,7 @@ pub(crate) fn solves<F: Field, G: Grid>(field: &F, grid: &G, rows: u32, codes: &
 // Are the columns, their rows weighted by the codes, all 0, and the next column 1?
 pub(crate) fn separates<F: Field, G: Grid>(field: &F, grid: &G, columns: u32, codes: &[u16]) -> bool
     requires { (columns ≤ 1024) × (length codes.now ≤ 512) }
-    ensures { result ≡ separates-system (F.arithmetic field.now) (system_in (length codes.now) columns (G.holds grid.now)) (vector codes.now) }
+    ensures { result ≡ separates_system (F.arithmetic field.now) (system_in (length codes.now) columns (G.holds grid.now)) (vector codes.now) }
 {
     for column in 1..columns + 1 {
         if column_sum(field, grid, column, codes) != 0 {

@@ -4,7 +4,7 @@ ghost use Rattle.refusal.specs.Outcomes.{outcome};
 ghost use Rattle.complex.specs.Boundaries.{listed_system};
 ghost use Rattle.complex.specs.Orders.{ascends, edge_less};
 ghost use Rattle.homology.specs.Certificate.{vector};
-ghost use Rattle.checking.specs.Claims.{verdict, size as size_of, forms as forms-in};
+ghost use Rattle.checking.specs.Claims.{verdict, size as size_of, forms as forms_in};
 
 use crate::Claim;
 use crate::codes::{has_nonzero, has_outside};
@@ -27,7 +27,7 @@ fn forms<F: Field>(
     requires thirds { length triangles.now ≤ 1024 }
     requires rising { ascends edge_less edges.now ≡ true }
     requires whole { length codes.now ≡ size_of claim (length edges.now) (length triangles.now) }
-    ensures { result ≡ forms-in (F.arithmetic field.now) (listed_system ((F.arithmetic field.now).negative 1) edges.now triangles.now fence.now) claim (vector codes.now) }
+    ensures { result ≡ forms_in (F.arithmetic field.now) (listed_system ((F.arithmetic field.now).negative 1) edges.now triangles.now fence.now) claim (vector codes.now) }
 {
     let grid = BoundaryGrid::new(edges, triangles, fence, field.negative(1));
     match claim {

@@ -1,6 +1,6 @@
 -- Lists that ascend: each element is below each later one, and what one comparison says of a whole half.
 use Rattle.std.proofs.Common.{◌≡◌, ℕ, zero, suc, ◌+◌, ◌-◌, ◌<◌, ◌≤◌, Bool, true, false, ◌&&◌, List, [], ◌∷◌, length, get_or, drop, Ordering, Less, Equal, Greater, sym, refl, ap, ◌∙◌, subst, ap₂, ⊎_elim, true≢false, arith}
-use Rattle.std.specs.List.{AllByRecursion as All}
+use Rattle.std.specs.List.{AllByRecursion}
 use Rattle.std.specs.Ordering.{MatchOrdering}
 use Rattle.std.proofs.ByRecursion.{All-get_or}
 use Rattle.std.proofs.lemmas.List.{get_or_read, at_drop_more, at_drop_all}
@@ -17,13 +17,13 @@ module _ {R : Type 0} (less : R → R → Bool) where
   -- each element is below all later ones
   abbrev pub Sorted : List R → Type 0
   Sorted [] = Unit {0}
-  Sorted (x ∷ xs) = All (λ y. less x y ≡ true) xs × Sorted xs
+  Sorted (x ∷ xs) = AllByRecursion (λ y. less x y ≡ true) xs × Sorted xs
 
   -- each element is below each later one
   abbrev pub Ascending : List R → Type 0
   Ascending xs = (i j : ℕ) (d : R) → i < j → j < length xs → less (get_or xs i d) (get_or xs j d) ≡ true
 
-  all_above : Chained → (x y : R) (ys : List R) → less x y ≡ true → All (λ z. less y z ≡ true) ys → All (λ z. less x z ≡ true) ys
+  all_above : Chained → (x y : R) (ys : List R) → less x y ≡ true → AllByRecursion (λ z. less y z ≡ true) ys → AllByRecursion (λ z. less x z ≡ true) ys
   all_above ch x y [] h a = tt
   all_above ch x y (z ∷ zs) h a = (ch x y z h a.0, all_above ch x y zs h a.1)
 

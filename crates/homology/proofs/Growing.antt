@@ -1,7 +1,7 @@
 -- A filling stays when more sensors are on.
 use Rattle.std.proofs.Common.{◌≡◌, ℕ, suc, ◌-◌, ◌<◌, Bool, true, false, cond, ◌&&◌, T, eqb, ltb, ◌⊎◌, List, [], ◌∷◌, length, get_or, sym, refl, ap, ◌∙◌, subst, subst₂, inl, inr, arith}
 use native.Mathlib.Fin.{val_path as by_code}
-use Rattle.std.specs.List.{AllByRecursion as All}
+use Rattle.std.specs.List.{AllByRecursion}
 use Rattle.std.proofs.ByRecursion.{All-weaker, All-get_or, All-from_get_or}
 use Rattle.std.proofs.lemmas.Bool.{cases_Bool, both_ways, and_parts, and_from, or_cases, or_left, or_right, eqb-true, eq-eqb, cond-false}
 use Rattle.std.proofs.lemmas.Bool.Decides.{nat_tests}
@@ -77,7 +77,7 @@ module _ (s : Survey) (p q : Sensors) (more : Inside p q) (keeps : KeepsFence s 
       and_from _ _ (and_from _ _ (joined_stays a b h.0) (joined_stays a c h.1)) (joined_stays b c h.2)
 
   -- the sides of listed triangles are joined, and so are listed edges
-  all_sides : All (Sides p) (triangles s p)
+  all_sides : AllByRecursion (Sides p) (triangles s p)
   all_sides =
       all_gather _ _ (sensors s) (λ a. all_gather _ _ (sensors s) (λ b. all_gather _ _ (sensors s) (λ c.
       all_if (Sides p) (triangle a b c) (solid p a b c) (sides p a b c))))
@@ -85,14 +85,14 @@ module _ (s : Survey) (p q : Sensors) (more : Inside p q) (keeps : KeepsFence s 
   abbrev Joined : Sensors → Edge → Type 0
   Joined o e = joined s o e.a e.b ≡ true
 
-  all_joined : All (Joined q) (edges s q)
+  all_joined : AllByRecursion (Joined q) (edges s q)
   all_joined = all_gather _ _ (sensors s) (λ a. all_gather _ _ (sensors s) (λ b. all_if (Joined q) (edge a b) (joined s q a b) (λ e. e)))
 
   -- what holds of every edge of p holds of the edges of q that are such
-  carried : (P : Edge → Type 0) → All P (edges s p) → All (λ e. Joined p e → P e) (edges s q)
+  carried : (P : Edge → Type 0) → AllByRecursion P (edges s p) → AllByRecursion (λ e. Joined p e → P e) (edges s q)
   carried P = all_gather_over P _ _ _ (sensors s) (λ a. all_gather_over P _ _ _ (sensors s) (λ b. one a b (joined s p a b) (joined s q a b) refl))
     where
-      one : (a b : ℕ) (x y : Bool) → joined s p a b ≡ x → All P (cond x (edge a b ∷ []) []) → All (λ e. Joined p e → P e) (cond y (edge a b ∷ []) [])
+      one : (a b : ℕ) (x y : Bool) → joined s p a b ≡ x → AllByRecursion P (cond x (edge a b ∷ []) []) → AllByRecursion (λ e. Joined p e → P e) (cond y (edge a b ∷ []) [])
       one a b x false o h = tt
       one a b true true o h = ((λ _. h.0), tt)
       one a b false true o h = ((λ e. absurd (both_ways _ o e)), tt)
@@ -155,7 +155,7 @@ module _ (s : Survey) (p q : Sensors) (more : Inside p q) (keeps : KeepsFence s 
         let w = widens X in
         let y = lowered F w.0 in
         let Fits : Edge → Type 0 = λ e. weighted K laws (triangles s p) X (boundary e) ≡ aim e in
-        let before : All Fits (edges s p) = All-from_get_or Fits (edges s p) no_edge (λ i l.
+        let before : AllByRecursion Fits (edges s p) = All-from_get_or Fits (edges s p) no_edge (λ i l.
         let m : suc i - 1 ≡ i = omega arith in
         subst (λ j. Fits (get_or (edges s p) j no_edge)) m (by_code (sym (by_list p x solves.codes (suc i)) ∙ solves.reaches (suc i) (omega arith) (omega arith)))) in
         let each : (e : Edge) → Joined q e → (Joined p e → Fits e) → Fits e = λ e on have. elim (cases_Bool (joined s p e.a e.b)) [

@@ -1,6 +1,6 @@
 -- The puts of loading and reducing are all taken exactly if the peak is within a store's limit.
 use Rattle.std.proofs.Common.{◌≡◌, ℕ, zero, suc, ◌+◌, ◌≤◌, max, Bool, true, false, cond, not, ◌&&◌, eqb, leb, List, [], ◌∷◌, Some, None, Option, sym, refl, ap, ◌∙◌, inl, inr, arith}
-use Rattle.std.specs.List.{AllByRecursion as All}
+use Rattle.std.specs.List.{AllByRecursion}
 use Rattle.std.proofs.ByRecursion.{All-append}
 use Rattle.std.proofs.lemmas.Bool.{cases_lt, le-leb, lt-leb}
 use Rattle.std.proofs.lemmas.Bool.Decides.{nat_tests}
@@ -20,15 +20,15 @@ use Rattle.homology.proofs.Additions.{turn, added_codes}
 -- What holds of each put of loading and reducing: P, if it holds of an entry of the starting matrix put into its own place, and of an
 -- entry of a sum, for matrices of which I holds.
 module _ (P : Put → Type 0) where
-  all_unless : (b : Bool) (p : Put) → P p → All P (cond b [] (p ∷ []))
+  all_unless : (b : Bool) (p : Put) → P p → AllByRecursion P (cond b [] (p ∷ []))
   all_unless true p h = tt
   all_unless false p h = (h, tt)
 
-  column_all : (n : ℕ) (A : Entries) (c : ℕ) → ((r : ℕ) → 1 ≤ r → r ≤ n → P (put_at r c (A r c))) → All P (column_puts n A c)
+  column_all : (n : ℕ) (A : Entries) (c : ℕ) → ((r : ℕ) → 1 ≤ r → r ≤ n → P (put_at r c (A r c))) → AllByRecursion P (column_puts n A c)
   column_all zero A c h = tt
   column_all (suc n) A c h = All-append P (column_puts n A c) _ (column_all n A c (λ r l m. h r l (omega arith))) (all_unless (eqb (A (suc n) c) 0) _ (h (suc n) (omega arith) (omega arith)))
 
-  loading_all : (R : ℕ) (A : Entries) (n : ℕ) → ((r c : ℕ) → 1 ≤ r → r ≤ R → 1 ≤ c → c ≤ n → P (put_at r c (A r c))) → All P (loading R A n)
+  loading_all : (R : ℕ) (A : Entries) (n : ℕ) → ((r c : ℕ) → 1 ≤ r → r ≤ R → 1 ≤ c → c ≤ n → P (put_at r c (A r c))) → AllByRecursion P (loading R A n)
   loading_all R A zero h = tt
   loading_all R A (suc n) h =
       All-append P (loading R A n) (column_puts R A (suc n)) (loading_all R A n (λ r c a b l m. h r c a b l (omega arith))) (column_all R A (suc n) (λ r l m. h r (suc n) l m (omega arith) (omega arith)))
@@ -37,18 +37,18 @@ module _ (P : Put → Type 0) where
   abbrev sum_put : Arithmetic → Entries → Addition → ℕ → Put
   sum_put F M a r = put_at r a.to (F.sum (M r a.to) (F.product (factor F M a) (M r a.from)))
 
-  addition_all : (F : Arithmetic) (n : ℕ) (M : Entries) (a : Addition) → ((r : ℕ) → 1 ≤ r → r ≤ n → P (sum_put F M a r)) → All P (addition_puts F n M a)
+  addition_all : (F : Arithmetic) (n : ℕ) (M : Entries) (a : Addition) → ((r : ℕ) → 1 ≤ r → r ≤ n → P (sum_put F M a r)) → AllByRecursion P (addition_puts F n M a)
   addition_all F zero M a h = tt
   addition_all F (suc n) M a h =
       All-append P (addition_puts F n M a) _ (addition_all F n M a (λ r l m. h r l (omega arith))) (all_unless (eqb (M (suc n) a.from) 0) _ (h (suc n) (omega arith) (omega arith)))
 
   module _ (F : Arithmetic) (E T : ℕ) (I : Entries → Type 0) (keeps : (M : Entries) (a : Addition) → I M → I (added F M a))
       (puts : (M : Entries) (a : Addition) (r : ℕ) → I M → 1 ≤ r → r ≤ E + T → 1 ≤ a.to → a.to ≤ T + 1 → P (sum_put F M a r)) where
-    course_all : (fuel : ℕ) (M : Entries) → I M → All P (course F E T fuel M).puts
+    course_all : (fuel : ℕ) (M : Entries) → I M → AllByRecursion P (course F E T fuel M).puts
     course_all zero M i = tt
     course_all (suc fuel) M i = go (due E T M) refl (λ a. course_all fuel (added F M a) (keeps M a i))
       where
-        go : (r : Option Addition) → due E T M ≡ r → ((a : Addition) → All P (course F E T fuel (added F M a)).puts) → All P (turn F E T fuel M r).puts
+        go : (r : Option Addition) → due E T M ≡ r → ((a : Addition) → AllByRecursion P (course F E T fuel (added F M a)).puts) → AllByRecursion P (turn F E T fuel M r).puts
         go None e more = tt
         go (Some a) e more =
             let h = due_to E T M a e in
@@ -66,7 +66,7 @@ full_ways zero (suc v) limit n n' h e = grind (arith, nat_tests)
 full_ways (suc old) zero limit n n' h e = grind (arith, nat_tests)
 full_ways (suc old) (suc v) limit n n' h e = grind (arith, nat_tests)
 
-highest_takes : (limit : ℕ) (m : Matrix) (ps : List Put) → All (λ p. within m p.row p.column ≡ true) ps → count m ≤ limit
+highest_takes : (limit : ℕ) (m : Matrix) (ps : List Put) → AllByRecursion (λ p. within m p.row p.column ≡ true) ps → count m ≤ limit
     → takes_all limit m ps ≡ leb (highest m ps) limit
 highest_takes limit m [] w l = sym (le-leb (count m) limit l)
 highest_takes limit m (p ∷ ps) w l =

@@ -1,6 +1,6 @@
 -- Lists with a weight for each place: weights of one list come to weights of a longer one, with 0 at what is new.
 use Rattle.std.proofs.Common.{◌≡◌, ℕ, zero, suc, ◌+◌, ◌<◌, Bool, true, false, cond, List, [], ◌∷◌, ◌++◌, length, get_or, sym, refl, ap, ◌∙◌, ap₂, subst₂, append_assoc, append-nil, arith}
-use Rattle.std.specs.List.{range_with_len, AllByRecursion as All}
+use Rattle.std.specs.List.{range_with_len, AllByRecursion}
 use Rattle.std.proofs.ByRecursion.{All-append}
 use Rattle.std.proofs.lemmas.Bool.{both_ways}
 use Rattle.field.specs.Algebra.{Operations, Laws}
@@ -10,19 +10,19 @@ use Rattle.homology.proofs.Sums.{sum}
 use Rattle.homology.proofs.Equations.{times_zero, zero_plus}
 
 -- what holds of an element that is there if a test holds, and of each element of what is gathered
-pub all_if : {X : Type 0} (P : X → Type 0) (x : X) (o : Bool) → (o ≡ true → P x) → All P (cond o (x ∷ []) [])
+pub all_if : {X : Type 0} (P : X → Type 0) (x : X) (o : Bool) → (o ≡ true → P x) → AllByRecursion P (cond o (x ∷ []) [])
 all_if P x true h = (h refl, tt)
 all_if P x false h = tt
 
-pub all_split : {X : Type 0} (P : X → Type 0) (xs ys : List X) → All P (xs ++ ys) → All P xs × All P ys
+pub all_split : {X : Type 0} (P : X → Type 0) (xs ys : List X) → AllByRecursion P (xs ++ ys) → AllByRecursion P xs × AllByRecursion P ys
 all_split P [] ys h = (tt, h)
 all_split P (x ∷ xs) ys h = let r = all_split P xs ys h.1 in ((h.0, r.0), r.1)
 
-pub all_gather : {A X : Type 0} (P : X → Type 0) (f : A → List X) (xs : List A) → ((x : A) → All P (f x)) → All P (gather f xs)
+pub all_gather : {A X : Type 0} (P : X → Type 0) (f : A → List X) (xs : List A) → ((x : A) → AllByRecursion P (f x)) → AllByRecursion P (gather f xs)
 all_gather P f [] h = tt
 all_gather P f (x ∷ xs) h = All-append P (f x) (gather f xs) (h x) (all_gather P f xs h)
 
-pub all_gather_over : {A X : Type 0} (P Q : X → Type 0) (f g : A → List X) (xs : List A) → ((x : A) → All P (f x) → All Q (g x)) → All P (gather f xs) → All Q (gather g xs)
+pub all_gather_over : {A X : Type 0} (P Q : X → Type 0) (f g : A → List X) (xs : List A) → ((x : A) → AllByRecursion P (f x) → AllByRecursion Q (g x)) → AllByRecursion P (gather f xs) → AllByRecursion Q (gather g xs)
 all_gather_over P Q f g [] h p = tt
 all_gather_over P Q f g (x ∷ xs) h p = let s = all_split P (f x) (gather f xs) p in All-append Q (g x) (gather g xs) (h x s.0) (all_gather_over P Q f g xs h s.1)
 
@@ -51,7 +51,7 @@ module _ {E : Type 0} (k : Operations E) (laws : Laws k) {X : Type 0} where
           ap₂ ◌⊕◌ (e 0 (omega arith) ∙ ap h same)
           (from (a + 1) ts (λ i. x (suc i)) h (λ i l. let n : a + suc i ≡ a + 1 + i = omega arith in e (suc i) (omega arith) ∙ ap h n))
 
-  pub weighted_zero : (ts : List X) (x : ℕ → E) (g : X → E) → All (λ t. g t ≡ 𝟘) ts → weighted ts x g ≡ 𝟘
+  pub weighted_zero : (ts : List X) (x : ℕ → E) (g : X → E) → AllByRecursion (λ t. g t ≡ 𝟘) ts → weighted ts x g ≡ 𝟘
   weighted_zero [] x g h = refl
   weighted_zero (t ∷ ts) x g h = zero_plus k laws (x 0 ⊗ g t) _ (times_zero k laws (x 0) (g t) h.0) ∙ weighted_zero ts (λ i. x (suc i)) g h.1
 

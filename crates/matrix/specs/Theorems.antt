@@ -1,6 +1,6 @@
 -- What is shown of puts, counts, multiples of columns and nonzero entries.
 use Rattle.std.specs.Prelude.{◌≡◌, ℕ, ◌+◌, ◌<◌, ◌≤◌, max, true, cond, List, ◌∷◌, ◌++◌, nat_le}
-use Rattle.std.specs.List.{AllByRecursion as All}
+use Rattle.std.specs.List.{AllByRecursion}
 use Rattle.refusal.specs.declared.Refusal.TheVariants.{StoreFull}
 use Rattle.refusal.specs.Numbers.{number_of}
 use Rattle.refusal.specs.Outcomes.{accepted, refused}
@@ -26,12 +26,12 @@ pub record Fits (t : Terms) (m : Matrix) (p : Put) : Type 0 where
 
 -- puts are refused exactly if `highest` exceeds the limit
 abbrev pub HighestTells : Type 0
-HighestTells = (t : Terms) (m : Matrix) (ps : List Put) → All (Fits t m) ps → count m ≤ limit_of t m
+HighestTells = (t : Terms) (m : Matrix) (ps : List Put) → AllByRecursion (Fits t m) ps → count m ≤ limit_of t m
     → puts_outcome t m ps ≡ cond (nat_le (highest m ps) (limit_of t m)) (accepted tt) (refused (number_of StoreFull))
 
 -- and that at the first put past the limit, with those before it done
 abbrev pub FirstPastLimit : Type 0
-FirstPastLimit = (t : Terms) (m : Matrix) (ps : List Put) (p : Put) (qs : List Put) → All (Fits t m) ps → Fits t m p
+FirstPastLimit = (t : Terms) (m : Matrix) (ps : List Put) (p : Put) (qs : List Put) → AllByRecursion (Fits t m) ps → Fits t m p
     → highest m ps ≤ limit_of t m → limit_of t m < count (put_into (played m ps) p)
     → (puts_outcome t m (ps ++ (p ∷ qs)) ≡ refused (number_of StoreFull)) × (puts_after t m (ps ++ (p ∷ qs)) ≡ played m ps)
 

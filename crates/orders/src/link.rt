@@ -1,7 +1,7 @@
 // Link order: the fewest links first, the lowest number among equals.
 ghost use Rattle.std.specs.Prelude.{◌≡◌, Some};
 ghost use Rattle.survey.specs.Plans.{survey_of};
-ghost use Rattle.survey.specs.Surveys.{degree as degree-in};
+ghost use Rattle.survey.specs.Surveys.{degree as degree_in};
 ghost use Rattle.orders.specs.Keyed.{link_order, LinkOrderLeast};
 ghost use Rattle.orders.specs.Least.{lesser};
 
@@ -14,7 +14,7 @@ pub struct LinkOrder;
 
 // How many links the sensor has in the survey, also those to sensors that are off.
 pub fn degree(survey: &Survey, x: u16) -> u16
-    ensures { result ≡ degree-in (survey_of survey.now) x }
+    ensures { result ≡ degree_in (survey_of survey.now) x }
 {
     let mut links = 0;
     for y in 1..survey.count() + 1 {
@@ -27,7 +27,7 @@ pub fn degree(survey: &Survey, x: u16) -> u16
 
 // Of the best so far and a sensor after it, the one with fewer links, and the earlier among equals.
 fn fewer_links(survey: &Survey, best: Option<u16>, x: u16) -> Option<u16>
-    ensures { result ≡ lesser (degree-in (survey_of survey.now)) best (Some x) }
+    ensures { result ≡ lesser (degree_in (survey_of survey.now)) best (Some x) }
 {
     match best {
         None => Some(x),

@@ -1,6 +1,6 @@
 -- What thinning drops: sensors that were untried, each but once, and nothing else.
 use Rattle.std.proofs.Common.{◌≡◌, ℕ, ◌≤◌, Bool, true, false, not, ◌&&◌, ◌||◌, eqb, List, length, Some, None, Option, sym, refl, ap, ◌∙◌, arith}
-use Rattle.std.specs.List.{AllByRecursion as All}
+use Rattle.std.specs.List.{AllByRecursion}
 use Rattle.std.proofs.lemmas.Bool.{both_ways}
 use Rattle.field.specs.Arithmetic.{Arithmetic}
 use Rattle.matrix.specs.Terms.{Terms}
@@ -63,7 +63,7 @@ module _ (s : Survey) (F : Arithmetic) (K : Terms) (O : Order s) where
   dropped_few _ _ _ _ (keeps untried on y more last e r g rest) = omega (arith, how_many_picked s O untried y e, dropped_few _ _ _ _ rest)
 
   -- and all are the survey's sensors
-  pub dropped_within : (untried on last : Sensors) (dropped : List ℕ) → Thinning s F K O untried on dropped last → All (Within s.count) dropped
+  pub dropped_within : (untried on last : Sensors) (dropped : List ℕ) → Thinning s F K O untried on dropped last → AllByRecursion (Within s.count) dropped
   dropped_within _ _ _ _ (finished untried on e r) = tt
   dropped_within _ _ _ _ (drops untried on y more last e r g rest) = let a = O.among untried y e in ((a.0, a.1), dropped_within _ _ _ _ rest)
   dropped_within _ _ _ _ (keeps untried on y more last e r g rest) = dropped_within _ _ _ _ rest

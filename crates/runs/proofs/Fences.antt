@@ -1,6 +1,6 @@
 -- The sensors on are the survey's and keep the fence, in every run.
 use Rattle.std.proofs.Common.{◌≡◌, ℕ, true, false, eqb, List, [], ◌∷◌, None, sym, refl, ap, ◌∙◌, inl, inr}
-use Rattle.std.specs.List.{AllByRecursion as All}
+use Rattle.std.specs.List.{AllByRecursion}
 use Rattle.std.proofs.lemmas.Bool.{both_ways, and_parts, and_from, and_right, or_cases, or_right, eqb-true, leb-true, le-leb, not_from_true}
 use Rattle.survey.specs.Lists.{member}
 use Rattle.survey.specs.Sets.{KeepsFence, all_of, fenced}
@@ -73,7 +73,7 @@ fence_stays_on_lem s whole calls on run x t = from_true _ (fence_run s whole cal
 pub valid_fence : (s : Survey) → Valid s → KeepsFence s (all_of s)
 valid_fence s v x t = from_true _ (go s.fence (distinct_within s.count nobody s.fence v.different) (true_from _ t))
   where
-    go : (xs : List ℕ) → All (Within s.count) xs → member x xs ≡ true → all_of s x ≡ true
+    go : (xs : List ℕ) → AllByRecursion (Within s.count) xs → member x xs ≡ true → all_of s x ≡ true
     go [] h m = absurd (both_ways _ refl m)
     go (y ∷ ys) h m = elim (or_cases (eqb x y) (member x ys) m) [
       | inl e ↦ ap (all_of s) (eqb-true x y e) ∙ and_from _ _ (le-leb 1 y h.0.0) (le-leb y s.count h.0.1)

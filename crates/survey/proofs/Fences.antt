@@ -1,6 +1,6 @@
 -- Distinct sensors are from 1 to n and at most n; loops that test a fence.
 use Rattle.std.proofs.Common.{◌≡◌, ℕ, suc, ◌+◌, ◌<◌, ◌≤◌, Bool, true, false, cond, not, ◌&&◌, ◌||◌, leb, List, [], ◌∷◌, length, get_or, drop, sym, refl, ap, ◌∙◌, ap₂, inl, inr, arith}
-use Rattle.std.specs.List.{AllByRecursion as All}
+use Rattle.std.specs.List.{AllByRecursion}
 use Rattle.std.proofs.lemmas.Bool.{and_parts, leb-true, not-true, eq-eqb, ne_eqb, or_left, cond-true, cond-false, cases_lt, lt-ltb, le-ltb}
 use Rattle.std.proofs.ByRecursion.{All-get_or}
 use Rattle.survey.specs.Lists.{numbers, after}
@@ -24,7 +24,7 @@ distinct_first n met x xs e =
     let p = and_parts _ _ e in let q = and_parts _ _ p.0 in let r = and_parts _ _ q.0 in
     record { within = (leb-true 1 x r.0, leb-true x n r.1); new = not-true _ q.1; others = p.1 }
 
-pub distinct_within : (n : ℕ) (met : Sensors) (xs : List ℕ) → distinct n met xs ≡ true → All (Within n) xs
+pub distinct_within : (n : ℕ) (met : Sensors) (xs : List ℕ) → distinct n met xs ≡ true → AllByRecursion (Within n) xs
 distinct_within n met [] e = tt
 distinct_within n met (x ∷ xs) e =
     let first = distinct_first n met x xs e in (first.within, distinct_within n (meeting x met) xs first.others)

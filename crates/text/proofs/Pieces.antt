@@ -1,6 +1,6 @@
 -- A byte, a number or a list that is read is the text of what was got, and its text is read back.
 use Rattle.std.proofs.Common.{◌≡◌, ℕ, ◌/◌, ◌<◌, Bool, true, false, cond, eqb, List, [], ◌∷◌, ◌++◌, Some, None, Option, refl, ap, ◌∙◌, ap₂, append_assoc, arith}
-use Rattle.std.specs.List.{AllByRecursion as All}
+use Rattle.std.specs.List.{AllByRecursion}
 use Rattle.std.proofs.lemmas.Bool.{eqb-true, and_parts, cond-false, cond_both}
 use Rattle.std.proofs.lemmas.Bool.Decides.{nat_tests}
 use Rattle.refusal.specs.Outcomes.{accepted}
@@ -87,7 +87,7 @@ list_end_back (a ∷ (b ∷ rest)) = refl
 lead_of_mark : (v : ℕ) → eqb (lead_of v) 59 ≡ false
 lead_of_mark v = grind (arith, nat_tests)
 
-pub a_list_back : (vs : List ℕ) (rest : List ℕ) → All (λ v. v < 10000) vs → a_list (gather column vs ++ (list_end ++ rest)) ≡ Some (record { got = vs; rest = rest })
+pub a_list_back : (vs : List ℕ) (rest : List ℕ) → AllByRecursion (λ v. v < 10000) vs → a_list (gather column vs ++ (list_end ++ rest)) ≡ Some (record { got = vs; rest = rest })
 a_list_back [] rest h = list_end_back rest
 a_list_back (v ∷ vs) rest h =
     cond-false _ _ _ (lead_of_mark (v / 1000)) ∙ and_next_some _ _ _ (number_of_column v h.0) ∙ ap (led_by v) (a_list_back vs rest h.1)

@@ -1,6 +1,6 @@
 -- A rising list is what a run of numbers has of its members, and what a test keeps of a run rises.
 use Rattle.std.proofs.Common.{◌≡◌, ℕ, zero, suc, ◌+◌, ◌<◌, ◌≤◌, Bool, true, false, cond, ◌||◌, List, [], ◌∷◌, ◌++◌, sym, refl, ap, ◌∙◌, subst, ap₂, inl, inr, arith}
-use Rattle.std.specs.List.{AllByRecursion as All}
+use Rattle.std.specs.List.{AllByRecursion}
 use Rattle.std.proofs.lemmas.Bool.{cases_eq, eq-eqb, ne_eqb, eqb-true, eqb-false, leb-true, ltb-true, lt-ltb, le-leb, cond-true, cond-false, and_parts, and_from, or_left, or_cases, both_ways, not-true, not_from_false}
 use Rattle.survey.specs.Lists.{numbers, member}
 use Rattle.survey.proofs.Lists.{false_from, sift, gather_same}
@@ -36,7 +36,7 @@ member_rising n x before (z ∷ zs) y e m =
 pub member_rising_false : (n x before : ℕ) (row : List ℕ) (y : ℕ) → rising n x before row ≡ true → ¬ Follows n x before y → member y row ≡ false
 member_rising_false n x before row y e never = false_from _ (λ m. never (member_rising n x before row y e m))
 
-pub all_rising : (n x before : ℕ) (row : List ℕ) (most : ℕ) → rising n x before row ≡ true → n < most → All (λ v. v < most) row
+pub all_rising : (n x before : ℕ) (row : List ℕ) (most : ℕ) → rising n x before row ≡ true → n < most → AllByRecursion (λ v. v < most) row
 all_rising n x before [] most e l = tt
 all_rising n x before (y ∷ ys) most e l =
     let p = rising_parts n x before y ys e in (omega (arith, p.0.most), all_rising n x y ys most p.1 l)

@@ -2,7 +2,7 @@
 ghost use Rattle.std.specs.Prelude.{◌≡◌, ◌+◌, ◌<◌, ◌≤◌, length};
 ghost use Rattle.std.proofs.lemmas.List.Edits.{sets};
 ghost use Rattle.refusal.specs.Outcomes.{outcome};
-ghost use Rattle.std.specs.List.{AllByRecursion as All};
+ghost use Rattle.std.specs.List.{AllByRecursion};
 ghost use Rattle.survey.specs.Lists.{gather};
 ghost use Rattle.survey.specs.Plans.{survey_of};
 ghost use Rattle.text.specs.Columns.{column};
@@ -77,7 +77,7 @@ fn write_sensor_lines(survey: &Survey, out: &mut [u8], at: usize) -> usize
 
 // Writes the columns of a list of numbers.
 fn write_columns(list: &[u16], out: &mut [u8], at: usize) -> usize
-    requires { (All (λ v. v < 10000) list.now) × (at + length (gather column list.now) ≤ length out.old) }
+    requires { (AllByRecursion (λ v. v < 10000) list.now) × (at + length (gather column list.now) ≤ length out.old) }
     ensures after { out.new ≡ sets out.old at (gather column list.now) }
     ensures place { result ≡ at + length (gather column list.now) }
 {
@@ -91,7 +91,7 @@ fn write_columns(list: &[u16], out: &mut [u8], at: usize) -> usize
 
 // Writes the line of the fence.
 fn write_fence_line(fence: &[u16], out: &mut [u8], at: usize) -> usize
-    requires { (All (λ v. v < 10000) fence.now) × (at + length (fence_text fence.now) ≤ length out.old) }
+    requires { (AllByRecursion (λ v. v < 10000) fence.now) × (at + length (fence_text fence.now) ≤ length out.old) }
     ensures after { out.new ≡ sets out.old at (fence_text fence.now) }
     ensures place { result ≡ at + length (fence_text fence.now) }
 {

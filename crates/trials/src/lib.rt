@@ -1,10 +1,10 @@
+// Tests of reading, writing and the rules on large and odd inputs, of the complex, of the stores and of the reduction.
 #![tactic(auto)]
 
-// Tests of reading, writing and the rules on large and odd inputs, of the complex, of the stores and of the reduction.
+#[cfg(test)]
+mod fillings;
 #[cfg(test)]
 mod reductions;
-#[cfg(test)]
-mod stores;
 
 #[cfg(test)]
 mod tests {

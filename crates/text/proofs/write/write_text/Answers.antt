@@ -1,7 +1,7 @@
 -- The count line, the sensor lines and the fence line, one after the other.
 use Rattle.std.proofs.Common.{◌≡◌, ℕ, ◌+◌, ◌<◌, ◌≤◌, List, [], ◌++◌, length, set, sym, refl, ap, ◌∙◌, subst, append-nil, arith}
 use lib.Seq.{sets}
-use Rattle.std.specs.List.{AllByRecursion as All}
+use Rattle.std.specs.List.{AllByRecursion}
 use Rattle.std.proofs.ByRecursion.{All-weaker}
 use Rattle.survey.specs.Plans.{survey_of}
 use Rattle.survey.specs.Surveys.{Survey, Valid, nobody}
@@ -17,11 +17,11 @@ room : (s : Survey) (out : List ℕ) → Valid s → text_length_of s ≤ length
 room s out valid l = omega (arith, length-text s valid)
 
 -- the sensors of a fence have columns
-small : (s : Survey) (fence : List ℕ) → Valid s → fence ≡ s.fence → All (λ v. v < 10000) fence
+small : (s : Survey) (fence : List ℕ) → Valid s → fence ≡ s.fence → AllByRecursion (λ v. v < 10000) fence
 small s fence valid e =
     let most : s.count ≤ 64 = valid.most in
     let within = distinct_within s.count nobody s.fence valid.different in
-    subst (All (λ v. v < 10000)) (sym e) (All-weaker (Within s.count) (λ v. v < 10000) (λ v w. omega arith) s.fence within)
+    subst (AllByRecursion (λ v. v < 10000)) (sym e) (All-weaker (Within s.count) (λ v. v < 10000) (λ v w. omega arith) s.fence within)
 
 counted : (s : Survey) (out new : List ℕ) (n : ℕ) → n ≡ s.count → new ≡ sets (set out 0 83) 1 (column n)
     → Progress out 0 (text s) (set new 5 10) 6 (lines_text s ++ fence_text s.fence)
