@@ -5,9 +5,9 @@ set -eu
 cd "$(dirname "$0")/.."
 halls=${HALLS:-"hub plain20 hole64 plain64 all19 add37089"}
 runs=${RUNS:-9}
-ours=target/bin/reducebench
+ours=crates/reducebench/out/reducebench
 hand=target/bench/baseline
-[ -x $ours ] || rt check reducebench > /dev/null
+[ -x $ours ] || (cd crates/reducebench && rt run > /dev/null)
 mkdir -p target/bench
 rustc -C opt-level=3 -o $hand bench/baseline.rs
 

@@ -3,9 +3,10 @@
 # without those of the same run that stops before the operation.
 set -eu
 cd "$(dirname "$0")/.."
-[ -x target/bin/storebench ] || rt check storebench > /dev/null
+ours=crates/storebench/out/storebench
+[ -x $ours ] || (cd crates/storebench && rt run > /dev/null)
 count() {
-    valgrind --tool=callgrind --callgrind-out-file=/dev/null target/bin/storebench "$1" "$2" 2>&1 | sed -n 's/.*Collected : //p'
+    valgrind --tool=callgrind --callgrind-out-file=/dev/null $ours "$1" "$2" 2>&1 | sed -n 's/.*Collected : //p'
 }
 for size in 500 1000 2000 4000; do
     base=$(count fill "$size")
