@@ -10,15 +10,10 @@ use Rattle.survey.specs.declared.edge.Triangle.{Triangle}
 use Rattle.survey.specs.Surveys.{edge, steps}
 use Rattle.complex.specs.Boundaries.{boundary_code_of, has_step_of, listed_system, no_edge, no_triangle}
 use Rattle.complex.specs.Grids.{Nearer, starting_outside}
+use Rattle.complex.specs.OrderLaws.{edge_apart, edge_chained}
 use Rattle.complex.specs.Orders.{ascends, edge_less, Stands}
 use Rattle.complex.specs.Systems.{System, starting}
 use Rattle.complex.proofs.Orders.{ascends_far}
-
-edge_apart : (x : Edge) → edge_less x x ≡ false
-edge_apart x = grind (arith, nat_tests)
-
-edge_chained : (x y z : Edge) → edge_less x y ≡ true → edge_less y z ≡ true → edge_less x z ≡ true
-edge_chained x y z p q = grind (arith, nat_tests)
 
 -- an edge below that of a place stands at none from there on
 pub past_none : (es : List Edge) → ascends edge_less es ≡ true → (e : Edge) (p : ℕ) (d : Edge) → edge_less e (get_or es p d) ≡ true → (i : ℕ) → p ≤ i → Stands es i e → ⊥

@@ -1,8 +1,8 @@
 // Total orders, the one search in a list that ascends, and the lexicographic orders of edges and triangles.
 ghost use Rattle.std.specs.Prelude.{◌≡◌, Bool, true, false};
 ghost use Rattle.std.specs.Ordering.{MatchOrdering};
+ghost use Rattle.complex.specs.OrderLaws.{edge_apart, edge_chained, triangle_apart, triangle_chained};
 ghost use Rattle.complex.specs.Orders.{ascends, Found, edge_less, triangle_less};
-ghost use Rattle.std.proofs.Common.{rules};
 
 use std::cmp::Ordering;
 use survey::edge::{Edge, Triangle};
@@ -51,9 +51,9 @@ pub fn is_ascending<R: TotalOrder>(list: &[R]) -> bool
 impl TotalOrder for Edge {
     ghost less = { edge_less };
 
-    ghost apart = { Prim.search rules };
+    ghost apart = { edge_apart };
 
-    ghost chained = { Prim.search rules };
+    ghost chained = { edge_chained };
 
     fn compare(&self, other: &Edge) -> Ordering {
         match self.a.cmp(&other.a) {
@@ -66,9 +66,9 @@ impl TotalOrder for Edge {
 impl TotalOrder for Triangle {
     ghost less = { triangle_less };
 
-    ghost apart = { Prim.search rules };
+    ghost apart = { triangle_apart };
 
-    ghost chained = { Prim.search rules };
+    ghost chained = { triangle_chained };
 
     fn compare(&self, other: &Triangle) -> Ordering {
         match (self.a.cmp(&other.a), self.b.cmp(&other.b)) {

@@ -3,6 +3,7 @@ use Rattle.std.specs.Prelude.{◌≡◌, ℕ, zero, suc, ◌+◌, ◌<◌, ◌�
 use Rattle.std.proofs.Common.{◌∙◌, ap, ap₂, subst, inl, inr, arith}
 use Rattle.std.proofs.lemmas.Bool.{cases_eq, cond_both, leb-true, leb-false, both_ways}
 use Rattle.survey.specs.Lists.{numbers}
+use Rattle.survey.specs.Sets.{Same}
 use Rattle.survey.specs.Surveys.{Survey, Sensors, sensors}
 use Rattle.orders.specs.Orders.{Order}
 
@@ -81,12 +82,22 @@ least_same key p q k (suc n) h =
     ap₂ (λ b o. lesser key (cond b (Some k) None) o) (h k (omega arith) (omega arith)) (least_same key p q (suc k) n (λ x l m. h x (omega arith) (omega arith)))
 
 -- among the sensors of a survey
+module _ (s : Survey) (key : ℕ → ℕ) where
+  pub least_respects : (p q : Sensors) → Same s.count p q → least_by key p (sensors s) ≡ least_by key q (sensors s)
+  least_respects p q h = least_same key p q 1 s.count (λ x l m. h x l (omega arith))
+
+  pub least_none : (p : Sensors) → least_by key p (sensors s) ≡ None → (x : ℕ) → 1 ≤ x → x ≤ s.count → p x ≡ false
+  least_none p e x l m = subst (Least key p 1 s.count) e (least key p 1 s.count) x l (omega arith)
+
+  pub least_among : (p : Sensors) (x : ℕ) → least_by key p (sensors s) ≡ Some x → (1 ≤ x) × (x ≤ s.count) × (p x ≡ true)
+  least_among p x e =
+      let h = subst (Least key p 1 s.count) e (least key p 1 s.count) in
+      (h.0, omega (arith, h.1), h.2)
+
 abbrev pub least_order : (s : Survey) → (ℕ → ℕ) → Order s
 least_order s key = record {
   pick = λ p. least_by key p (sensors s);
-  respects = λ p q h. least_same key p q 1 s.count (λ x l m. h x l (omega arith));
-  none = λ p e x l m. subst (Least key p 1 s.count) e (least key p 1 s.count) x l (omega arith);
-  among = λ p x e.
-      let h = subst (Least key p 1 s.count) e (least key p 1 s.count) in
-      (h.0, omega (arith, h.1), h.2);
+  respects = least_respects s key;
+  none = least_none s key;
+  among = least_among s key;
 }
