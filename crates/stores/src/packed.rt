@@ -83,7 +83,8 @@ fn scan(bytes: &[u8], width: EntryWidth, start: usize, end: usize) -> usize
     while place < end {
         let byte = bytes[place / per];
         if byte == 0 {
-            place = first_nonzero(bytes, place / per + 1, (end - 1) / per + 1) * per;
+            let next = first_nonzero(bytes, place / per + 1, (end - 1) / per + 1);
+            place = next * per;
         } else if code_of(byte, width.bits(), (place % per) as u32) == 0 {
             place += 1;
         } else {

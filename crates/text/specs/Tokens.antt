@@ -1,7 +1,7 @@
 -- The token that a text has at a place.
 use Rattle.std.specs.Prelude.{◌≡◌, ℕ, ◌+◌, ◌≤◌, List, [], ◌∷◌, length, take, drop, Some, None, Option}
 use Rattle.text.specs.declared.symbol.Symbol.{Symbol}
-use Rattle.text.specs.declared.symbol.Symbol.TheVariants.{Survey, Sensor, Fence, End, Space, LineEnd as line-end-symbol, Digit, Other}
+use Rattle.text.specs.declared.symbol.Symbol.TheVariants.{Survey, Sensor, Fence, End, Space, LineEnd as line_end_symbol, Digit, Other}
 use Rattle.text.specs.declared.token.Token.{Token}
 use Rattle.text.specs.declared.token.Token.TheVariants.{Number, Mark, LineEnd}
 use Rattle.text.specs.Columns.{and_next}
@@ -20,7 +20,7 @@ part_by Survey a rest = Some (mark a)
 part_by Sensor a rest = Some (mark a)
 part_by Fence a rest = Some (mark a)
 part_by End a rest = Some (mark a)
-part_by line-end-symbol a rest = Some line_end
+part_by line_end_symbol a rest = Some line_end
 part_by Space a rest = and_next (number_first (a ∷ rest)) (λ v. Some (number v))
 part_by (Digit d) a rest = and_next (number_first (a ∷ rest)) (λ v. Some (number v))
 part_by Other a rest = None

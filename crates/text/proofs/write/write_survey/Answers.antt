@@ -5,7 +5,7 @@ use Rattle.refusal.specs.Outcomes.{accepted}
 use Rattle.survey.specs.Plans.{survey_of}
 use Rattle.text.specs.Text.{text_length_of}
 use Rattle.text.proofs.Back.{reads_back, one_text}
-use Rattle.text.proofs.Lengths.{text_length_of as length-text}
+use Rattle.text.proofs.Lengths.{text_length_of as length_text}
 use Rattle.text.proofs.write.write_survey.Goals as goal
 
 pub returns-then-text_length-out : goal.returns-then-text_length-out
@@ -16,7 +16,7 @@ returns-then-text_length-out c =
       after = c.write_text.ensures.after ∙ sym (cond-true _ _ _ (le-leb _ _ fits));
       back = reads_back;
       one = one_text;
-      long = length-text;
+      long = length_text;
     }
 
 pub returns-else-text_length-out : goal.returns-else-text_length-out
@@ -27,5 +27,5 @@ returns-else-text_length-out c =
       after = sym (cond-false _ _ _ (lt-leb _ _ short));
       back = reads_back;
       one = one_text;
-      long = length-text;
+      long = length_text;
     }

@@ -9,12 +9,12 @@ use Rattle.survey.proofs.Fences.{Within, distinct_within}
 use Rattle.text.specs.Columns.{column}
 use Rattle.text.specs.Text.{text, text_length_of}
 use Rattle.text.specs.Writing.{lines_text, fence_text, text_before}
-use Rattle.text.proofs.Lengths.{text_length_of as length-text}
+use Rattle.text.proofs.Lengths.{text_length_of as length_text}
 use Rattle.text.proofs.Writing.{Progress, progress_none, progress_more, progress_byte, progress_all, progress_fits, sets_front}
 use Rattle.text.proofs.write.write_text.Goals as goal
 
 room : (s : Survey) (out : List ℕ) → Valid s → text_length_of s ≤ length out → 0 + length (text s) ≤ length out
-room s out valid l = omega (arith, length-text s valid)
+room s out valid l = omega (arith, length_text s valid)
 
 -- the sensors of a fence have columns
 small : (s : Survey) (fence : List ℕ) → Valid s → fence ≡ s.fence → AllByRecursion (λ v. v < 10000) fence
@@ -37,7 +37,7 @@ ended : (s : Survey) (fence out old new : List ℕ) (at place : ℕ) → Valid s
     → new ≡ sets old at (fence_text fence) → place ≡ at + length (fence_text fence) → (new ≡ text_before s out) × (place ≡ text_length_of s)
 ended s fence out old new at place valid l p h n =
     let done = progress_all (progress_more (fence_text fence) [] p (sym (append-nil (fence_text fence))) h n) refl in
-    (done.0 ∙ sets_front (text s) out (omega (arith, length-text s valid)), omega (arith, done.1, length-text s valid))
+    (done.0 ∙ sets_front (text s) out (omega (arith, length_text s valid)), omega (arith, done.1, length_text s valid))
 
 pub write_sensor_lines-end-requires : goal.write_sensor_lines-end-requires
 write_sensor_lines-end-requires c =
