@@ -1,4 +1,5 @@
 -- What the contracts of the crate cite.
+pub mod Kinds
 pub mod Linear
 pub mod Reduction
 pub mod Certificate

@@ -5,6 +5,8 @@
 ghost use Rattle.homology.specs.Examples.{HubComputes, HallsCompute};
 ghost use Rattle.homology.specs.Theorems.{BlockExcludesFilling, OneSolution, OneSeparator, WhatIsDue, ReductionEnds, AddsReach, ReductionAnswers, CertificatePublished, CertificateDecides, OnePublished, PutsReduce, PeakTells, PeakRefuses, FillingsGrow, AlikeSame};
 
+pub mod kind;
+
 // A separator refutes a solution, for any system.
 pub fn block_excludes_filling() -> ()
     ensures { BlockExcludesFilling }
