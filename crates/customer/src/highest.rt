@@ -12,13 +12,6 @@ impl ThinningOrder for HighestFirst {
     ghost order = { λ _ s. highest_order s };
 
     fn pick(&self, survey: &Survey, candidates: &SensorSet) -> Option<u16> {
-        let mut x = survey.count();
-        while x > 0 {
-            if candidates.member(x) {
-                return Some(x);
-            }
-            x -= 1;
-        }
-        None
+        (1..=survey.count()).rev().find(|x| candidates.member(*x))
     }
 }

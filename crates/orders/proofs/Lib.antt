@@ -1,2 +1,3 @@
 -- Lemmas of the crate.
 mod Picks
+mod Chains

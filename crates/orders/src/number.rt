@@ -12,12 +12,7 @@ impl ThinningOrder for NumberOrder {
     ghost order = { λ _ s. number_order s };
 
     fn pick(&self, survey: &Survey, candidates: &SensorSet) -> Option<u16> {
-        for x in 1..survey.count() + 1 {
-            if candidates.member(x) {
-                return Some(x);
-            }
-        }
-        None
+        (1..=survey.count()).find(|x| candidates.member(*x))
     }
 }
 

@@ -1,16 +1,17 @@
--- A link is counted when it is met.
-use Rattle.std.proofs.Common.{true, false, arith}
+-- The links are those of the numbers that pass the test.
+use Rattle.std.proofs.Common.{◌∙◌, rules}
+use Rattle.std.proofs.lemmas.Iterator.Consumers.{count_from_yields_List, YieldsList-from_filter, YieldsList-at}
 use Rattle.survey.specs.Plans.{survey_of}
-use Rattle.survey.proofs.Walks.{ahead_if}
+use Rattle.survey.specs.Surveys.{sensors}
+use Rattle.orders.proofs.Chains.{YieldsList-from_numbers, length_gather}
 use Rattle.orders.proofs.link.degree.Goals as goal
-use Rattle.orders.proofs.link.degree.Goals.{then-linked, else-linked}
 
-pub loop-y-preserved : goal.loop-y-preserved
-loop-y-preserved c =
-    let links = (survey_of c.args.survey.now).linked c.args.x in
-    elim c.if-linked.branch [
-      | then-linked w ↦
-          (omega (arith, w.links-is, ahead_if links (λ y. y) _ _ true c.loop-y-test.true w.if-linked.ensures), omega (arith, w.links-is), omega arith)
-      | else-linked w ↦
-          (omega (arith, w.links-is, ahead_if links (λ y. y) _ _ false c.loop-y-test.true w.if-linked.ensures), omega (arith, w.links-is), omega arith)
-    ]
+pub returns : goal.returns
+returns c =
+    let s = survey_of c.args.survey.now in
+    let links = s.linked c.args.x in
+    count_from_yields_List c.filter.result _ c.count-2.ensures.ran
+    (YieldsList-from_filter _ links
+    (YieldsList-at c.filter.ensures.source (YieldsList-from_numbers s.count c.new.ensures.start (c.new.ensures.end ∙ c.count.ensures.value) c.new.ensures.exhausted))
+    c.filter.ensures.closure (λ x b q k. search rules))
+    ∙ length_gather links (sensors s)

@@ -1,28 +1,18 @@
--- Each candidate is held against the best so far.
-use Rattle.std.proofs.Common.{true, false, sym, ap, ◌∙◌}
+-- The key is the number of links.
+use Rattle.std.proofs.Common.{◌∙◌, rules}
+use Rattle.std.proofs.lemmas.Iterator.Consumers.{YieldsList-from_filter, YieldsList-at}
 use Rattle.survey.specs.Plans.{survey_of}
 use Rattle.survey.specs.Sets.{set_of}
-use Rattle.survey.specs.Surveys.{degree}
-use Rattle.orders.specs.Least.{lesser}
-use Rattle.orders.proofs.Picks.{lesser_none, least_start, least_end, best_turn}
+use Rattle.survey.specs.Surveys.{degree, sensors}
+use Rattle.orders.proofs.Chains.{YieldsList-from_numbers, least_filtered, least_from_min_by_key}
 use Rattle.orders.proofs.link.LinkOrderThinningOrder.pick.Goals as goal
-use Rattle.orders.proofs.link.LinkOrderThinningOrder.pick.Goals.{then-member, else-member}
-
-pub loop-x-init : goal.loop-x-init
-loop-x-init c =
-    least_start (degree (survey_of c.args.survey.now)) (set_of c.args.candidates.now) _ _ c.count-x-end.ensures.value
-
-pub loop-x-preserved : goal.loop-x-preserved
-loop-x-preserved c =
-    let key = degree (survey_of c.args.survey.now) in
-    let p = set_of c.args.candidates.now in
-    elim c.if-member.branch [
-      | then-member w ↦ best_turn key p _ _ true _ _ _ c.loop-x-test.true w.if-member.ensures (w.best-is ∙ w.fewer_links-best.ensures) c.loop-x.invariant
-      | else-member w ↦ best_turn key p _ _ false _ _ _ c.loop-x-test.true w.if-member.ensures (w.best-is ∙ sym (lesser_none key c.loop-x.best)) c.loop-x.invariant
-    ]
 
 pub returns : goal.returns
 returns c =
-    let key = degree (survey_of c.args.survey.now) in
-    sym (lesser_none key c.loop-x.best)
-    ∙ ap (lesser key c.loop-x.best) (sym (least_end key (set_of c.args.candidates.now) _ _ c.loop-x-test.false)) ∙ c.loop-x.invariant
+    let s = survey_of c.args.survey.now in
+    let p = set_of c.args.candidates.now in
+    least_from_min_by_key (degree s) _ _ (λ x k q h. search rules) c.min_by_key.result c.min_by_key.ensures.ran
+    (YieldsList-from_filter _ p
+    (YieldsList-at c.filter.ensures.source (YieldsList-from_numbers s.count c.new.ensures.start (c.new.ensures.end ∙ c.count.ensures.value) c.new.ensures.exhausted))
+    c.filter.ensures.closure (λ x b q k. search rules))
+    ∙ least_filtered (degree s) p (sensors s)

@@ -1,19 +1,17 @@
 -- The search stops at the first candidate.
-use Rattle.std.proofs.Common.{false, sym, ◌∙◌}
+use Rattle.std.proofs.Common.{sym, ◌∙◌, rules}
+use Rattle.std.proofs.lemmas.Iterator.Adapters.{option_map_id}
+use Rattle.std.proofs.lemmas.Iterator.Search.{find_from_yields_List}
+use Rattle.survey.specs.Plans.{survey_of}
 use Rattle.survey.specs.Sets.{set_of}
-use Rattle.orders.proofs.Picks.{first_least, least_start, least_turn, least_end}
+use Rattle.orders.proofs.Chains.{YieldsList-from_numbers, find_least}
 use Rattle.orders.proofs.number.NumberOrderThinningOrder.pick.Goals as goal
 
-pub loop-x-init : goal.loop-x-init
-loop-x-init c = least_start (λ x. x) (set_of c.args.candidates.now) _ _ c.count-x-end.ensures.value
-
-pub returns-then-member : goal.returns-then-member
-returns-then-member c =
-    sym (first_least (set_of c.args.candidates.now) _ _ c.loop-x-test.true c.if-member.ensures) ∙ c.loop-x.invariant
-
-pub loop-x-preserved : goal.loop-x-preserved
-loop-x-preserved c =
-    sym (least_turn (λ x. x) (set_of c.args.candidates.now) _ _ false c.loop-x-test.true c.if-member.ensures) ∙ c.loop-x.invariant
-
 pub returns : goal.returns
-returns c = sym (least_end (λ x. x) (set_of c.args.candidates.now) _ _ c.loop-x-test.false) ∙ c.loop-x.invariant
+returns c =
+    let n = (survey_of c.args.survey.now).count in
+    let p = set_of c.args.candidates.now in
+    sym (option_map_id c.find.result)
+    ∙ find_from_yields_List p _ _ c.find.result c.find.ensures.ran
+    (YieldsList-from_numbers n c.new.ensures.start (c.new.ensures.end ∙ c.count.ensures.value) c.new.ensures.exhausted) (λ x b q k. search rules)
+    ∙ find_least p 1 n
