@@ -1,57 +1,18 @@
--- Chains over the numbers 1..=n, and the pick of the least key among what they give.
+-- What a chain over the sensors' numbers finds, counts and picks.
 use denote.Param.Members.{Mut}
-use Rattle.std.specs.declared.ops.RangeInclusive.{RangeInclusive}
-use Rattle.std.proofs.Common.{◌≡◌, ℕ, zero, suc, ◌+◌, ◌-◌, Bool, true, false, cond, List, [], ◌∷◌, ◌++◌, length, Some, None, Option, Ordering, Less, Equal, Greater, Bor, sym, refl, ap, ap₂, ◌∙◌, subst, arith}
-use Rattle.std.proofs.iter.runs.Sources.{nat_range_inclusive_steps}
+use Rattle.std.proofs.Common.{◌≡◌, ℕ, zero, suc, Bool, true, false, cond, List, [], ◌∷◌, ◌++◌, length, Some, None, Option, Ordering, Less, Equal, Greater, Bor, sym, refl, ap, ap₂, ◌∙◌, subst, arith}
 use Rattle.std.proofs.lemmas.Bool.{cond-true, cond-false, le-leb, lt-leb}
 use Rattle.std.proofs.lemmas.Bool.Decides.{nat_tests}
 use Rattle.std.proofs.lemmas.Iterator.{YieldsList, items_from_drains}
-use Rattle.std.proofs.lemmas.Iterator.Consumers.{YieldsList-from_shown}
 use Rattle.std.proofs.lemmas.List.{map-id}
 use Rattle.std.specs.Fn.{CalledAt}
 use Rattle.std.specs.Iterator.{PicksMinByKey, KeyTurn}
 use Rattle.std.specs.List.{FoldsTo, filter, find}
 use Rattle.std.specs.Ordering.{nat_cmp, min_by_ordering}
-use Rattle.std.specs.Range.{range_inclusive_start, range_inclusive_end, range_inclusive_exhausted, range_inclusive_len, range_inclusive_left}
 use Rattle.survey.specs.Lists.{numbers, gather}
 use Rattle.survey.specs.Surveys.{Sensors, everyone}
 use Rattle.orders.specs.Least.{lesser, least_by, Least, least}
 use Rattle.orders.proofs.Picks.{lesser_assoc}
-
--- ---- the range
-
-abbrev count_left : RangeInclusive ℕ → ℕ
-count_left s = range_inclusive_left (λ x y. y - x) s
-
-abbrev left : RangeInclusive ℕ → List ℕ
-left s = numbers (range_inclusive_start s) (count_left s)
-
-left_none : (s t : RangeInclusive ℕ) → nat_range_inclusive_steps s None t → length (left s) ≡ 0
-left_none s t h = ap (λ n. length (numbers (range_inclusive_start s) n)) h.1.0
-
-left_some : (s : RangeInclusive ℕ) (x : ℕ) (t : RangeInclusive ℕ) → nat_range_inclusive_steps s (Some x) t → left s ≡ x ∷ left t
-left_some s x t h =
-    let n : count_left s ≡ suc (count_left t) = omega (arith, h.1.1) in
-    ap (numbers (range_inclusive_start s)) n ∙ ap (λ k. k ∷ numbers (suc (range_inclusive_start s)) (count_left t)) (sym h.1.0)
-    ∙ ap {B = List ℕ} (λ l. x ∷ l) (go (range_inclusive_exhausted t) refl)
-  where
-    go : (b : Bool) → range_inclusive_exhausted t ≡ b → numbers (suc (range_inclusive_start s)) (count_left t) ≡ left t
-    go true e =
-        let z : count_left t ≡ 0 = ap (range_inclusive_len (λ x y. y - x) (range_inclusive_start t) (range_inclusive_end t)) e in
-        ap (numbers (suc (range_inclusive_start s))) z ∙ sym (ap (numbers (range_inclusive_start t)) z)
-    go false e = let m : suc (range_inclusive_start s) ≡ range_inclusive_start t = omega (arith, h.1.2 e) in ap (λ k. numbers k (count_left t)) m
-
--- `1..=n` gives 1 to n
-pub YieldsList-from_numbers : {s : RangeInclusive ℕ} (n : ℕ) → range_inclusive_start s ≡ 1 → range_inclusive_end s ≡ n → range_inclusive_exhausted s ≡ false
-    → YieldsList nat_range_inclusive_steps (λ x. x) s (numbers 1 n)
-YieldsList-from_numbers {s} n a b z =
-    let fresh : count_left s ≡ range_inclusive_end s - range_inclusive_start s + 1 - (range_inclusive_start s - range_inclusive_end s) =
-    ap (range_inclusive_len (λ x y. y - x) (range_inclusive_start s) (range_inclusive_end s)) z in
-    let all : count_left s ≡ n = omega (arith, fresh) in
-    let e : left s ≡ numbers 1 n = ap (numbers (range_inclusive_start s)) all ∙ ap (λ k. numbers k n) a in
-    subst (λ l. YieldsList nat_range_inclusive_steps (λ x. x) s l) e (YieldsList-from_shown nat_range_inclusive_steps (λ x. x) left left_none left_some s)
-
--- ---- what is looked for
 
 -- by number the first that is met is the least
 pub find_least : (p : Sensors) (k n : ℕ) → find p (numbers k n) ≡ least_by (λ x. x) p (numbers k n)

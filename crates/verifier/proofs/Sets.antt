@@ -1,5 +1,5 @@
 -- A roster's sets, gathered sensor by sensor.
-use Rattle.std.proofs.Common.{◌≡◌, ℕ, ◌+◌, ◌<◌, ◌≤◌, Bool, true, false, not, ◌&&◌, ◌||◌, ltb, leb, length, get_or, sym, refl, ap, ◌∙◌, inl, inr, arith}
+use Rattle.std.proofs.Common.{◌≡◌, ℕ, ◌+◌, ◌<◌, ◌≤◌, Bool, true, false, cond, not, Some, None, Option, ◌&&◌, ◌||◌, ltb, leb, length, get_or, sym, refl, ap, ◌∙◌, subst, inl, inr, arith}
 use mathlib.Core.Path.{fun_ext}
 use Rattle.std.proofs.lemmas.List.{get_or_default}
 use Rattle.std.proofs.lemmas.Bool.{cases_eq, cases_Bool, cases_lt, and_parts, leb-true, lt-ltb, le-ltb, eq-eqb, ne_eqb}
@@ -10,29 +10,28 @@ use Rattle.verifier.specs.declared.roster.Roster.{Roster}
 use Rattle.verifier.specs.declared.sensor.Sensor.{Sensor}
 use Rattle.verifier.specs.declared.sensor.State.{State}
 use Rattle.verifier.specs.declared.sensor.State.TheVariants.{Fence, On, Off}
-use Rattle.verifier.specs.Rosters.{meaning_of, is_sensor, chosen}
+use Rattle.verifier.specs.Rosters.{meaning_of, is_sensor, chosen, state_in}
 use Rattle.verifier.specs.Sensors.{state_at, is_fence_of, is_on}
 
--- what a record says of the choice
-abbrev pub counts : Bool → State → Bool
-counts fence Fence = fence
-counts fence On = true
-counts fence Off = false
+-- what a state says of the choice
+abbrev pub counts : Bool → Option State → Bool
+counts fence None = false
+counts fence (Some Fence) = fence
+counts fence (Some On) = true
+counts fence (Some Off) = false
 
-counts_is : (st : State) (fence m : Bool) → is_fence_of st ≡ m → counts fence st ≡ (is_on st && (fence || not m))
-counts_is Fence true m e = refl
-counts_is Fence false m e = ap not e
-counts_is On true m e = refl
-counts_is On false m e = ap not e
-counts_is Off fence m e = refl
+counts_is : (t fence : Bool) (st : State) (m : Bool) → is_fence_of st ≡ m
+    → counts fence (cond t (Some (cond m Fence (cond (t && is_on st) On Off))) None) ≡ ((t && is_on st) && (fence || not m))
+counts_is false fence st m e = refl
+counts_is true true Fence m e = ap (λ m. counts true (Some (cond m Fence On))) (sym e)
+counts_is true false Fence m e = subst (λ m. counts false (Some (cond m Fence On)) ≡ not m) e refl
+counts_is true true On m e = subst (λ m. counts true (Some (cond m Fence On)) ≡ true) e refl
+counts_is true false On m e = subst (λ m. counts false (Some (cond m Fence On)) ≡ not m) e refl
+counts_is true fence Off m e = subst (λ m. counts fence (Some (cond m Fence Off)) ≡ false) e refl
 
--- by the record of a sensor, read with any default
-pub chosen_is : (r : Roster) (x : ℕ) (fence : Bool) (d : Sensor) (st : State) → x < length r.sensors → is_sensor (meaning_of r).survey x ≡ true
-    → (get_or r.sensors x d).state ≡ st → counts fence st ≡ chosen (meaning_of r) fence x
-chosen_is r x fence d st l t e =
-    ap (counts fence) (sym e ∙ ap (λ (q : Sensor). q.state) (get_or_default r.sensors x d (record { state = Off }) l))
-    ∙ counts_is (state_at r.sensors x) fence _ (r.fenced x)
-    ∙ sym (ap (λ b. (b && is_on (state_at r.sensors x)) && (fence || not (member x (meaning_of r).survey.fence))) t)
+-- by what the roster says of a sensor
+pub chosen_is : (r : Roster) (x : ℕ) (fence : Bool) (o : Option State) → o ≡ state_in (meaning_of r) x → counts fence o ≡ chosen (meaning_of r) fence x
+chosen_is r x fence o e = ap (counts fence) e ∙ counts_is (is_sensor (meaning_of r).survey x) fence (state_at r.sensors x) _ (r.fenced x)
 
 never : (b : Bool) → (b && false) ≡ false
 never true = refl

@@ -20,8 +20,7 @@ impl Roster {
         ensures { meaning_of result ≡ fresh (survey_of survey) }
     {
         let mut sensors = [Sensor { state: State::On }; 65];
-        let fence = survey.fence();
-        for x in fence {
+        for x in survey.fence() {
             set_state(&mut sensors[*x as usize], State::Fence);
         }
         Roster { survey, sensors }
@@ -38,10 +37,9 @@ impl Roster {
     pub fn state(&self, sensor: u16) -> Option<State>
         ensures { result ≡ state_in (meaning_of self.now) sensor }
     {
-        if sensor < 1 || sensor > self.survey.count() {
-            return None;
-        }
-        Some(self.sensors[sensor as usize].state)
+        (1..=self.survey.count())
+            .contains(&sensor)
+            .then(|| self.sensors[sensor as usize].state)
     }
 
     // Writes the text of the roster's survey, as `write_survey` does.

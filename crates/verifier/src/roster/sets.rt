@@ -1,7 +1,7 @@
 // The sets of a roster's sensors.
-ghost use Rattle.std.specs.Prelude.{◌≡◌, true};
+ghost use Rattle.std.specs.Prelude.{◌≡◌};
 ghost use Rattle.survey.specs.Sets.{set_of};
-ghost use Rattle.verifier.specs.Rosters.{meaning_of, is_sensor, chosen, candidates};
+ghost use Rattle.verifier.specs.Rosters.{meaning_of, chosen, candidates};
 
 use super::Roster;
 use crate::sensor::State;
@@ -10,14 +10,12 @@ use survey::sensor_set::SensorSet;
 impl Roster {
     // Is the sensor on, where those of the fence count if `fence` says so?
     fn is_chosen(&self, x: u16, fence: bool) -> bool
-        requires { is_sensor (meaning_of self.now).survey x ≡ true }
         ensures { result ≡ chosen (meaning_of self.now) fence x }
     {
-        let state = self.sensors[x as usize].state;
-        match state {
-            State::Fence => fence,
-            State::On => true,
-            State::Off => false,
+        match self.state(x) {
+            Some(State::Fence) => fence,
+            Some(State::On) => true,
+            Some(State::Off) | None => false,
         }
     }
 

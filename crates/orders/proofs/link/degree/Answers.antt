@@ -3,7 +3,8 @@ use Rattle.std.proofs.Common.{◌∙◌, rules}
 use Rattle.std.proofs.lemmas.Iterator.Consumers.{count_from_yields_List, YieldsList-from_filter, YieldsList-at}
 use Rattle.survey.specs.Plans.{survey_of}
 use Rattle.survey.specs.Surveys.{sensors}
-use Rattle.orders.proofs.Chains.{YieldsList-from_numbers, length_gather}
+use Rattle.survey.proofs.Numbers.{YieldsList-from_numbers}
+use Rattle.orders.proofs.Chains.{length_gather}
 use Rattle.orders.proofs.link.degree.Goals as goal
 
 pub returns : goal.returns

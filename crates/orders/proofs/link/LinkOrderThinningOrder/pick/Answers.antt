@@ -4,7 +4,8 @@ use Rattle.std.proofs.lemmas.Iterator.Consumers.{YieldsList-from_filter, YieldsL
 use Rattle.survey.specs.Plans.{survey_of}
 use Rattle.survey.specs.Sets.{set_of}
 use Rattle.survey.specs.Surveys.{degree, sensors}
-use Rattle.orders.proofs.Chains.{YieldsList-from_numbers, least_filtered, least_from_min_by_key}
+use Rattle.survey.proofs.Numbers.{YieldsList-from_numbers}
+use Rattle.orders.proofs.Chains.{least_filtered, least_from_min_by_key}
 use Rattle.orders.proofs.link.LinkOrderThinningOrder.pick.Goals as goal
 
 pub returns : goal.returns

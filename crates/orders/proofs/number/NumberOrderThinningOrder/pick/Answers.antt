@@ -4,7 +4,8 @@ use Rattle.std.proofs.lemmas.Iterator.Adapters.{option_map_id}
 use Rattle.std.proofs.lemmas.Iterator.Search.{find_from_yields_List}
 use Rattle.survey.specs.Plans.{survey_of}
 use Rattle.survey.specs.Sets.{set_of}
-use Rattle.orders.proofs.Chains.{YieldsList-from_numbers, find_least}
+use Rattle.survey.proofs.Numbers.{YieldsList-from_numbers}
+use Rattle.orders.proofs.Chains.{find_least}
 use Rattle.orders.proofs.number.NumberOrderThinningOrder.pick.Goals as goal
 
 pub returns : goal.returns

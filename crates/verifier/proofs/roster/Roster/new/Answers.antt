@@ -19,14 +19,14 @@ pub loop-x-init : goal.loop-x-init
 loop-x-init c = (refl, marked_none 65 _ refl, all_on_none 65 _ refl)
 
 pub bounds-sensors-x : goal.bounds-sensors-x
-bounds-sensors-x c = in_table c.args.survey c.fence-fence.result.now c.loop-x.x-index c.fence-fence.ensures c.loop-x-test.true
+bounds-sensors-x c = in_table c.args.survey c.fence-x-items.result.now c.loop-x.x-index c.fence-x-items.ensures c.loop-x-test.true
 
 pub loop-x-preserved : goal.loop-x-preserved
 loop-x-preserved c =
-    let fence = c.fence-fence.result.now in
+    let fence = c.fence-x-items.result.now in
     let i = c.loop-x.x-index in
     let sensors = c.loop-x.sensors in
-    let few : get_or fence i 0 < length sensors = omega (arith, in_table c.args.survey fence i c.fence-fence.ensures c.loop-x-test.true, c.loop-x.invariant.0) in (
+    let few : get_or fence i 0 < length sensors = omega (arith, in_table c.args.survey fence i c.fence-x-items.ensures c.loop-x-test.true, c.loop-x.invariant.0) in (
       length-set sensors (get_or fence i 0) _ ∙ c.loop-x.invariant.0,
       marked_more fence i sensors _ c.loop-x-test.true few c.set_state.ensures c.loop-x.invariant.1,
       all_on_more 65 sensors (get_or fence i 0) _ few c.set_state.ensures c.loop-x.invariant.2,
@@ -34,7 +34,7 @@ loop-x-preserved c =
 
 pub invariant_of-result : goal.invariant_of-result
 invariant_of-result c =
-    record { fenced = subst (λ (f : List ℕ). Marked f c.loop-x.sensors) (take_all _ c.fence-fence.result.now c.loop-x-test.false ∙ c.fence-fence.ensures) c.loop-x.invariant.1 }
+    record { fenced = subst (λ (f : List ℕ). Marked f c.loop-x.sensors) (take_all _ c.fence-x-items.result.now c.loop-x-test.false ∙ c.fence-x-items.ensures) c.loop-x.invariant.1 }
 
 pub returns : goal.returns
 returns c =

@@ -5,4 +5,4 @@ use Rattle.verifier.proofs.Tables.{AllOn}
 use Rattle.verifier.proofs.roster.Roster.new.Given as goal
 
 abbrev pub invariant-loop-x : goal.invariant-loop-x
-invariant-loop-x l = (length l.sensors ≡ 65) × Marked (take l.x-index l.fence) l.sensors × AllOn 65 l.sensors
+invariant-loop-x l = (length l.sensors ≡ 65) × Marked (take l.x-index l.x-items) l.sensors × AllOn 65 l.sensors
