@@ -1,13 +1,19 @@
 -- A roster's sets, gathered sensor by sensor.
-use Rattle.std.proofs.Common.{◌≡◌, ℕ, ◌+◌, ◌<◌, ◌≤◌, Bool, true, false, cond, not, Some, None, Option, ◌&&◌, ◌||◌, ltb, leb, length, get_or, sym, refl, ap, ◌∙◌, subst, inl, inr, arith}
+use Rattle.std.proofs.Common.{◌≡◌, ℕ, ◌≤◌, Bool, true, false, cond, not, Some, None, Option, ◌&&◌, ◌||◌, eqb, leb, List, [], ◌∷◌, ◌++◌, sym, refl, ap, ◌∙◌, subst, arith}
+use denote.Param.Members.{Mut}
 use mathlib.Core.Path.{fun_ext}
-use Rattle.std.proofs.lemmas.List.{get_or_default}
-use Rattle.std.proofs.lemmas.Bool.{cases_eq, cases_Bool, cases_lt, and_parts, leb-true, lt-ltb, le-ltb, eq-eqb, ne_eqb}
-use Rattle.survey.specs.Lists.{member}
-use Rattle.survey.specs.Sets.{up_to, joining}
-use Rattle.survey.specs.Surveys.{Survey, Sensors}
+use Rattle.std.proofs.lemmas.Bool.{and_parts, and_from, le-leb, leb-true, eqb-true}
+use Rattle.std.proofs.lemmas.Fn.{fold_over}
+use Rattle.std.proofs.lemmas.Iterator.{YieldsList}
+use Rattle.std.specs.Fn.{Called}
+use Rattle.std.specs.Iterator.{FoldsItems}
+use Rattle.std.specs.List.{filter}
+use Rattle.survey.specs.declared.sensor_set.SensorSet.{SensorSet}
+use Rattle.survey.specs.Lists.{numbers, member}
+use Rattle.survey.specs.Sets.{set_of, up_to, joining}
+use Rattle.survey.specs.Surveys.{Survey, Sensors, nobody}
+use Rattle.survey.proofs.Lists.{member_push, member_sift, member_numbers, sift}
 use Rattle.verifier.specs.declared.roster.Roster.{Roster}
-use Rattle.verifier.specs.declared.sensor.Sensor.{Sensor}
 use Rattle.verifier.specs.declared.sensor.State.{State}
 use Rattle.verifier.specs.declared.sensor.State.TheVariants.{Fence, On, Off}
 use Rattle.verifier.specs.Rosters.{meaning_of, is_sensor, chosen, state_in}
@@ -37,48 +43,54 @@ never : (b : Bool) → (b && false) ≡ false
 never true = refl
 never false = refl
 
--- a number other than x is below x + 1 exactly if it is below x
-step : (x y : ℕ) → ¬ (y ≡ x) → ltb y x ≡ ltb y (x + 1)
-step x y d = elim (cases_lt y x) [
-  | inl l ↦ lt-ltb y x l ∙ sym (lt-ltb y (x + 1) (omega arith))
-  | inr l ↦ le-ltb y x l ∙ sym (le-ltb y (x + 1) (omega arith))
-]
+-- a fold over the numbers ys put into the set those from 1 to 64
+abbrev pub Gathered : List ℕ → SensorSet → Type 0
+Gathered ys set = (y : ℕ) → set_of set y ≡ (up_to 64 y && member y ys)
 
--- no number outside the sensors is chosen
-none_outside : (s : Survey) (f : Sensors) → ((x : ℕ) → is_sensor s x ≡ false → f x ≡ false) → (x : ℕ) → (x < 1) → f x ≡ false
-none_outside s f h x l = h x (ap (λ t. t && leb x s.count) (below x l))
+gathered_none : (set : SensorSet) → set_of set ≡ nobody → Gathered [] set
+gathered_none set e y = ap (λ (f : Sensors). f y) e ∙ sym (never (up_to 64 y))
+
+gathered_more : (ys : List ℕ) (x : ℕ) (set new : SensorSet) → Gathered ys set → set_of new ≡ joining x (set_of set) → Gathered (ys ++ x ∷ []) new
+gathered_more ys x set new h e y = ap (λ (f : Sensors). f y) e ∙ go (eqb y x) refl ∙ sym (ap (λ b. up_to 64 y && b) (member_push y x ys))
   where
-    below : (x : ℕ) → x < 1 → leb 1 x ≡ false
-    below x l = le-ltb 0 x (omega arith)
+    absorbed : (a b : Bool) → (a || (a && b)) ≡ (a && true)
+    absorbed true b = refl
+    absorbed false b = refl
 
-module _ (s : Survey) (f : Sensors) (outside : (x : ℕ) → is_sensor s x ≡ false → f x ≡ false) where
-  -- the loop has come to x: the set holds what is chosen below it
-  abbrev pub Below : ℕ → Sensors → Type 0
-  Below x set = (y : ℕ) → set y ≡ (ltb y x && f y)
+    go : (b : Bool) → eqb y x ≡ b → ((b && up_to 64 x) || set_of set y) ≡ (up_to 64 y && (b || member y ys))
+    go true e = ap (λ k. up_to 64 k || set_of set y) (sym (eqb-true y x e)) ∙ ap (λ b. up_to 64 y || b) (h y) ∙ absorbed (up_to 64 y) (member y ys)
+    go false e = h y
 
-  pub below_none : (set : Sensors) → ((y : ℕ) → set y ≡ false) → Below 1 set
-  below_none set h y = elim (cases_lt y 1) [
-    | inl l ↦ h y ∙ sym (ap (λ t. ltb y 1 && t) (none_outside s f outside y l) ∙ never (ltb y 1))
-    | inr l ↦ h y ∙ sym (ap (λ t. t && f y) (le-ltb y 1 l))
-  ]
+pub gathered_by_fold : {S F : Type 0} {steps : S → Option ℕ → S → Type 0} {g : Mut F (SensorSet × (ℕ × Unit {0})) SensorSet} {s : S} {f : F} {all : List ℕ} (init r : SensorSet)
+    → FoldsItems steps g s f init r → YieldsList steps (λ x. x) s all → ((a : SensorSet) (x : ℕ) (b : SensorSet) (q : F) → Called g f (a, (x, tt)) b q → (set_of b ≡ joining x (set_of a)) × (q ≡ f))
+    → set_of init ≡ nobody → Gathered all r
+gathered_by_fold {steps = steps} {g = g} {s = s} {f = f} {all = all} init r ran road with' none =
+    fold_over steps (λ x. x) g Gathered f (λ ys a x b q h k. let w = with' a x b q k in (gathered_more ys x a b h w.0, w.1)) s all init r road.runs (gathered_none init none) ran
 
-  pub below_with : (x : ℕ) (set new : Sensors) → up_to 64 x ≡ true → f x ≡ true → ((y : ℕ) → new y ≡ joining x set y) → Below x set → Below (x + 1) new
-  below_with x set new u t n h y = elim (cases_eq y x) [
-    | inl e ↦ n y ∙ ap (λ b. (b && up_to 64 x) || set y) (eq-eqb y x e) ∙ ap (λ b. b || set y) u ∙ sym (ap (λ b. b && f y) (lt-ltb y (x + 1) (omega arith)) ∙ ap f e ∙ t)
-    | inr d ↦ n y ∙ ap (λ b. (b && up_to 64 x) || set y) (ne_eqb y x d) ∙ h y ∙ ap (λ b. b && f y) (step x y d)
-  ]
+filter_sift : (f : Sensors) (xs : List ℕ) → filter f xs ≡ sift f xs
+filter_sift f [] = refl
+filter_sift f (x ∷ xs) = go (f x) (filter_sift f xs)
+  where
+    go : (b : Bool) → filter f xs ≡ sift f xs → cond b (x ∷ filter f xs) (filter f xs) ≡ cond b (x ∷ []) [] ++ sift f xs
+    go true e = ap {B = List ℕ} (λ l. x ∷ l) e
+    go false e = e
 
-  pub below_past : (x : ℕ) (set : Sensors) → f x ≡ false → Below x set → Below (x + 1) set
-  below_past x set t h y = elim (cases_eq y x) [
-    | inl e ↦ h y ∙ ap (λ b. ltb y x && b) (ap f e ∙ t) ∙ never (ltb y x) ∙ sym (ap (λ b. ltb y (x + 1) && b) (ap f e ∙ t) ∙ never (ltb y (x + 1)))
-    | inr d ↦ h y ∙ ap (λ b. b && f y) (step x y d)
-  ]
-
-  pub below_all : (x : ℕ) (set : Sensors) → s.count + 1 ≤ x → Below x set → set ≡ f
-  below_all x set l h = fun_ext (λ y. elim (cases_Bool (is_sensor s y)) [
-    | inl t ↦ h y ∙ ap (λ b. b && f y) (lt-ltb y x (omega (arith, leb-true y s.count (and_parts (leb 1 y) (leb y s.count) t).1)))
-    | inr o ↦ h y ∙ ap (λ b. ltb y x && b) (outside y o) ∙ never (ltb y x) ∙ sym (outside y o)
-  ])
+-- of the sensors, those that pass f
+pub gathered_all : (s : Survey) (f : Sensors) → s.count ≤ 64 → ((x : ℕ) → is_sensor s x ≡ false → f x ≡ false) → (set : SensorSet) → Gathered (filter f (numbers 1 s.count)) set
+    → set_of set ≡ f
+gathered_all s f few outside set h = fun_ext (λ y.
+    h y ∙ ap (λ l. up_to 64 y && member y l) (filter_sift f (numbers 1 s.count)) ∙ ap (λ b. up_to 64 y && b) (member_sift f y (numbers 1 s.count)) ∙ go y (is_sensor s y) refl)
+  where
+    go : (y : ℕ) (b : Bool) → is_sensor s y ≡ b → (up_to 64 y && (member y (numbers 1 s.count) && f y)) ≡ f y
+    go y true t =
+        let in' = and_parts (leb 1 y) (leb y s.count) t in
+        let low = leb-true 1 y in'.0 in
+        let high = leb-true y s.count in'.1 in
+        ap (λ b. b && (member y (numbers 1 s.count) && f y)) (and_from _ _ in'.0 (le-leb y 64 (omega arith)))
+        ∙ ap (λ b. b && f y) (member_numbers y 1 s.count low (omega arith))
+    go y false o =
+        let none = outside y o in
+        ap (λ b. up_to 64 y && (member y (numbers 1 s.count) && b)) none ∙ ap (λ b. up_to 64 y && b) (never (member y (numbers 1 s.count))) ∙ never (up_to 64 y) ∙ sym none
 
 -- of a roster
 pub chosen_outside : (r : Roster) (fence : Bool) (x : ℕ) → is_sensor (meaning_of r).survey x ≡ false → chosen (meaning_of r) fence x ≡ false

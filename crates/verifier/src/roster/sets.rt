@@ -23,13 +23,9 @@ impl Roster {
     fn chosen_set(&self, fence: bool) -> SensorSet
         ensures { set_of result ≡ chosen (meaning_of self.now) fence }
     {
-        let mut set = SensorSet::empty();
-        for x in 1..self.survey.count() + 1 {
-            if self.is_chosen(x, fence) {
-                set = set.with(x);
-            }
-        }
-        set
+        (1..=self.survey.count())
+            .filter(|x| self.is_chosen(*x, fence))
+            .fold(SensorSet::empty(), |set, x| set.with(x))
     }
 
     // All sensors that are on.

@@ -1,5 +1,5 @@
 -- The sensor's state tells the choice.
-use Rattle.std.proofs.Common.{Some, ap, ◌∙◌}
+use Rattle.std.proofs.Common.{Some}
 use Rattle.verifier.specs.declared.sensor.State.TheVariants.{Fence, On, Off}
 use Rattle.verifier.proofs.Sets.{chosen_is}
 use Rattle.verifier.proofs.roster.Roster.is_chosen.Goals as goal

@@ -1,10 +1,9 @@
 -- Every sensor begins on; then those of the fence are marked.
-use Rattle.std.proofs.Common.{◌≡◌, ℕ, ◌<◌, Bool, List, length, get_or, refl, ap, ◌∙◌, subst, arith, length-set, take_all}
+use Rattle.std.proofs.Common.{◌≡◌, ℕ, ◌<◌, Bool, List, length, get_or, refl, ap, ◌∙◌, subst, arith, length-set}
 use Rattle.survey.specs.declared.plan.Survey.{Survey as Plan}
 use Rattle.survey.specs.Plans.{survey_of}
 use Rattle.survey.specs.Surveys.{nobody}
 use Rattle.survey.proofs.Fences.{getD_within}
-use Rattle.verifier.specs.Sensors.{Marked}
 use Rattle.verifier.proofs.Tables.{marked_none, marked_more, all_on_none, all_on_more, on_is_all}
 use Rattle.verifier.proofs.roster.Roster.new.Goals as goal
 
@@ -31,10 +30,6 @@ loop-x-preserved c =
       marked_more fence i sensors _ c.loop-x-test.true few c.set_state.ensures c.loop-x.invariant.1,
       all_on_more 65 sensors (get_or fence i 0) _ few c.set_state.ensures c.loop-x.invariant.2,
     )
-
-pub invariant_of-result : goal.invariant_of-result
-invariant_of-result c =
-    record { fenced = subst (λ (f : List ℕ). Marked f c.loop-x.sensors) (take_all _ c.fence-x-items.result.now c.loop-x-test.false ∙ c.fence-x-items.ensures) c.loop-x.invariant.1 }
 
 pub returns : goal.returns
 returns c =
