@@ -1,12 +1,11 @@
 // Listed edges and triangles and a fence, read as the starting matrix.
-ghost use Rattle.std.specs.Prelude.{◌≡◌, ℕ, ◌+◌, ◌-◌, ◌≤◌, T, length};
+ghost use Rattle.std.specs.Prelude.{◌≡◌, ℕ, ◌+◌, ◌-◌, ◌≤◌, true, length};
 ghost use Rattle.matrix.specs.Nonzero.{next_in};
 ghost use Rattle.complex.specs.Grids.{matrix_of, Few, Ordered, Nearer};
 ghost use Rattle.complex.specs.Orders.{Stands};
 
 use crate::boundary::{boundary_code, fence_code};
-use crate::order::{TotalOrder, find};
-use std::cmp::Ordering;
+use crate::order::find;
 use survey::edge::{Edge, Triangle};
 use survey::fence::next;
 
@@ -60,16 +59,10 @@ impl<'e, 't, 'f> Lists<'e, 't, 'f> {
     // Does the edge come before that of the row, so that it stands in no row from there on?
     fn is_past(&self, row: u32, edge: Edge) -> bool
         requires { Ordered self.now }
-        ensures { T result → (i : ℕ) → row ≤ i → 1 ≤ i → Stands self.now.edges.now (i - 1) edge → ⊥ }
+        ensures { result ≡ true → (i : ℕ) → row ≤ i → 1 ≤ i → Stands self.now.edges.now (i - 1) edge → ⊥ }
     {
         let place = row.saturating_sub(1) as usize;
-        if place >= self.edges.len() {
-            return true;
-        }
-        match edge.compare(&self.edges[place]) {
-            Ordering::Less => true,
-            _ => false,
-        }
+        place >= self.edges.len() || edge < self.edges[place]
     }
 
     // The row of the edge, if it is nonzero in the column and lies from `first` to below `row`; else `row`.

@@ -1,8 +1,11 @@
 -- The list ascends, so an edge below that of a place is below all behind it.
-use Rattle.std.proofs.Common.{arith}
+use Rattle.std.proofs.Common.{◌-◌, sym, ◌∙◌, arith}
+use Rattle.complex.specs.Boundaries.{no_edge}
+use Rattle.complex.specs.OrderLaws.{edge_below}
 use Rattle.complex.proofs.Columns.{past_none}
 use Rattle.complex.proofs.lists.Lists.is_past.Goals as goal
 
-pub returns-in-Less : goal.returns-in-Less
-returns-in-Less c _ i l k s =
-    past_none c.args.self.now.edges.now c.requires.1 c.args.edge c.saturating_sub-place.result _ c.in-Less.ensures _ (omega (arith, c.saturating_sub-place.ensures)) s
+pub returns-else-place-self : goal.returns-else-place-self
+returns-else-place-self c h i l k s =
+    past_none c.args.self.now.edges.now c.requires.1 c.args.edge c.saturating_sub-place.result no_edge
+    (sym (edge_below c.args.edge _) ∙ sym c.lt.ensures ∙ h) (i - 1) (omega (arith, c.saturating_sub-place.ensures)) s
