@@ -1,5 +1,5 @@
 -- The columns of the starting matrix: where they can be nonzero, and searches that look only there.
-use Rattle.std.proofs.Common.{◌≡◌, ℕ, ◌+◌, ◌-◌, ◌<◌, ◌≤◌, Bool, true, false, cond, ◌&&◌, ◌||◌, eqb, ltb, leb, List, [], ◌∷◌, length, get_or, Some, None, sym, refl, ap, ◌∙◌, subst, ap₂, ⊎_elim, true≢false, arith}
+use Rattle.std.proofs.Common.{◌≡◌, ℕ, ◌+◌, ◌-◌, ◌<◌, ◌≤◌, Bool, true, false, cond, ◌&&◌, ◌||◌, eqb, ltb, leb, List, [], ◌∷◌, length, get_or, Some, None, Option, inl, inr, sym, refl, ap, ◌∙◌, subst, ap₂, ⊎_elim, true≢false, arith}
 use Rattle.std.proofs.lemmas.List.{get_or_default}
 use Rattle.std.proofs.lemmas.Bool.{cases_lt, cases_eq, cases_order, cases_Bool, and_parts, or_parts, or_from, eqb-true, cond-false}
 use Rattle.std.proofs.lemmas.Bool.Decides.{nat_tests}
@@ -9,7 +9,7 @@ use Rattle.survey.specs.declared.edge.Edge.{Edge}
 use Rattle.survey.specs.declared.edge.Triangle.{Triangle}
 use Rattle.survey.specs.Surveys.{edge, steps}
 use Rattle.complex.specs.Boundaries.{boundary_code_of, has_step_of, listed_system, no_edge, no_triangle}
-use Rattle.complex.specs.Grids.{Nearer, starting_outside}
+use Rattle.complex.specs.Grids.{Before, Nearer, starting_outside}
 use Rattle.complex.specs.OrderLaws.{edge_apart, edge_chained}
 use Rattle.complex.specs.Orders.{ascends, edge_less, Stands}
 use Rattle.complex.specs.Systems.{System, starting}
@@ -25,9 +25,17 @@ past_none es up e p d h i l s = ⊎_elim
     true≢false (sym (subst (λ y. edge_less e y ≡ true) (ap (λ k. get_or es k d) at ∙ s.1 d) h) ∙ edge_apart e))
     (cases_lt p i)
 
--- a search comes down to the row of an edge that was looked up
+-- where a search stands: at a nonzero row from `first` on
+abbrev At : (ℕ → ℕ) → ℕ → ℕ → Type 0
+At f first r = (first ≤ r) × (f r ≡ 0 → ⊥)
 
-module _ (f : ℕ → ℕ) (es : List Edge) (up : ascends edge_less es ≡ true) (first : ℕ) (e : Edge) (row : ℕ) where
+before_less : (i j : ℕ) (o : Option ℕ) → i < j → Before j o → Before i o
+before_less i j None l b = tt
+before_less i j (Some r) l b = omega arith
+
+-- a search comes to the row of an edge that was looked up
+
+module _ (f : ℕ → ℕ) (es : List Edge) (up : ascends edge_less es ≡ true) (first : ℕ) (e : Edge) (so_far : Option ℕ) where
   apart_places : (i j : ℕ) → i < j → Stands es i e → Stands es j e → ⊥
   apart_places i j l s t =
       true≢false (sym (ascends_far edge_less edge_chained es up i j e l t.0) ∙ ap₂ edge_less (s.1 e) (t.1 e) ∙ edge_apart e)
@@ -36,21 +44,24 @@ module _ (f : ℕ → ℕ) (es : List Edge) (up : ascends edge_less es ≡ true)
   one_place : (i j : ℕ) → Stands es i e → Stands es j e → i ≡ j
   one_place i j s t = ⊎_elim (λ q. q) (⊎_elim (λ l. absurd (apart_places i j l s t)) (λ l. absurd (apart_places j i l t s))) (cases_order i j)
 
-  pub nearer_none : ((i : ℕ) → first ≤ i → 1 ≤ i → Stands es (i - 1) e → ⊥) → Nearer f es first e row row
-  nearer_none n = record { most = omega arith; chosen = λ l. absurd (omega arith); passed = λ i l m k s. absurd (n i l k s) }
+  pub nearer_none : ((i : ℕ) → first ≤ i → 1 ≤ i → Stands es (i - 1) e → ⊥) → Nearer f es first e so_far so_far
+  nearer_none n = record { sooner = λ i b. b; chosen = λ r h. inl h; passed = λ i l m k s. absurd (n i l k s) }
 
-  pub nearer_come : (p : ℕ) → Stands es p e → first ≤ p + 1 → p + 1 < row → (f (p + 1) ≡ 0 → ⊥) → Nearer f es first e row (p + 1)
+  pub nearer_come : (p : ℕ) → Stands es p e → first ≤ p + 1 → Before (p + 1) so_far → (f (p + 1) ≡ 0 → ⊥) → Nearer f es first e so_far (Some (p + 1))
   nearer_come p s l m d = record {
-    most = omega arith;
-    chosen = λ _. (l, d);
+    sooner = λ i b. before_less i (p + 1) so_far b m;
+    chosen = λ r h. let at : p + 1 ≡ r = cc in inr (subst (At f first) at (l, d));
     passed = λ i l' m' k t. let same = one_place (i - 1) p t s in absurd (omega arith);
   }
 
-  pub nearer_stay : (p : ℕ) → Stands es p e → (first ≤ p + 1 → p + 1 < row → f (p + 1) ≡ 0) → Nearer f es first e row row
+  pub nearer_stay : (p : ℕ) → Stands es p e → (first ≤ p + 1 → Before (p + 1) so_far → f (p + 1) ≡ 0) → Nearer f es first e so_far so_far
   nearer_stay p s z = record {
-    most = omega arith;
-    chosen = λ l. absurd (omega arith);
-    passed = λ i l m k t. let same = one_place (i - 1) p t s in let at : p + 1 ≡ i = omega arith in ap f (sym at) ∙ z (omega arith) (omega arith);
+    sooner = λ i b. b;
+    chosen = λ r h. inl h;
+    passed = λ i l m k t.
+        let same = one_place (i - 1) p t s in
+        let at : p + 1 ≡ i = omega arith in
+        ap f (sym at) ∙ z (omega arith) (subst (λ j. Before j so_far) (sym at) m);
   }
 
 -- the entries, said with plain values
@@ -94,13 +105,9 @@ code_zero minus t e x is p q r =
     (cases_Bool (eqb e.a t.a && eqb e.b t.c)))
     (cases_Bool (eqb e.a t.b && eqb e.b t.c))
 
--- where a search stands: at a nonzero row from `first` on
-abbrev At : (ℕ → ℕ) → ℕ → ℕ → Type 0
-At f first r = (first ≤ r) × (f r ≡ 0 → ⊥)
-
-at_nearer : (f : ℕ → ℕ) (es : List Edge) (first : ℕ) (e : Edge) (row r : ℕ) → Nearer f es first e row r → At f first row → At f first r
-at_nearer f es first e row r n h =
-    ⊎_elim n.chosen (λ g. let most = n.most in let same : row ≡ r = omega arith in subst (At f first) same h) (cases_lt r row)
+at_nearer : (f : ℕ → ℕ) (es : List Edge) (first : ℕ) (e : Edge) (so_far nearest : Option ℕ) → Nearer f es first e so_far nearest
+    → ((r : ℕ) → so_far ≡ Some r → At f first r) → (r : ℕ) → nearest ≡ Some r → At f first r
+at_nearer f es first e so_far nearest n h r is = ⊎_elim (h r) (λ a. a) (n.chosen r is)
 
 module _ (minus : ℕ) (es : List Edge) (ts : List Triangle) (fence : List ℕ) where
   abbrev S : System
@@ -124,25 +131,38 @@ module _ (minus : ℕ) (es : List Edge) (ts : List Triangle) (fence : List ℕ) 
     pub boundary_none : length es + c < first → First f first None
     boundary_none l i h = entry_other (length es) (length ts) i c (S.matrix i c) (S.target i) (omega arith) (λ e. absurd (omega arith))
 
-    pub boundary_first : (r₁ r₂ r₃ : ℕ) → first ≤ length es + c → Nearer f es first (edge t.b t.c) (length es + c) r₁
-        → Nearer f es first (edge t.a t.c) r₁ r₂ → Nearer f es first (edge t.a t.b) r₂ r₃ → First f first (Some r₃)
-    boundary_first r₁ r₂ r₃ l n₁ n₂ n₃ =
-        let own : f (length es + c) ≡ 1 = entry_own (length es) (length ts) c (S.matrix (length es + c) c) (S.target (length es + c)) low high in
-        let start : At f first (length es + c) = (l, λ z. let w : ◌≡◌ {A = ℕ} 1 0 = sym own ∙ z in absurd (omega arith)) in
-        let end = at_nearer f es first _ r₂ r₃ n₃ (at_nearer f es first _ r₁ r₂ n₂ (at_nearer f es first _ (length es + c) r₁ n₁ start)) in
-        (end.0, end.1, below)
+    pub boundary_first : (o₁ o₂ o₃ : Option ℕ) → first ≤ length es + c → Nearer f es first (edge t.b t.c) (Some (length es + c)) o₁
+        → Nearer f es first (edge t.a t.c) o₁ o₂ → Nearer f es first (edge t.a t.b) o₂ o₃ → First f first o₃
+    boundary_first o₁ o₂ o₃ l n₁ n₂ n₃ = found o₃ refl
       where
-        edge_row : (i : ℕ) → first ≤ i → i < r₃ → 1 ≤ i → i ≤ length es → f i ≡ 0
+        before₂ : (i : ℕ) → Before i o₃ → Before i o₂
+        before₂ = n₃.sooner
+
+        before₁ : (i : ℕ) → Before i o₃ → Before i o₁
+        before₁ i b = n₂.sooner i (before₂ i b)
+
+        before_own : (i : ℕ) → Before i o₃ → i < length es + c
+        before_own i b = n₁.sooner i (before₁ i b)
+
+        own : (r : ℕ) → Some (length es + c) ≡ Some r → At f first r
+        own r e =
+            let at : length es + c ≡ r = cc in
+            let one : f (length es + c) ≡ 1 = entry_own (length es) (length ts) c (S.matrix (length es + c) c) (S.target (length es + c)) low high in
+            subst (At f first) at (l, λ z. let w : ◌≡◌ {A = ℕ} 1 0 = sym one ∙ z in absurd (omega arith))
+
+        end : (r : ℕ) → o₃ ≡ Some r → At f first r
+        end = at_nearer f es first _ o₂ o₃ n₃ (at_nearer f es first _ o₁ o₂ n₂ (at_nearer f es first _ (Some (length es + c)) o₁ n₁ own))
+
+        edge_row : (i : ℕ) → first ≤ i → Before i o₃ → 1 ≤ i → i ≤ length es → f i ≡ 0
         edge_row i h k a b =
-            let m₁ = n₁.most in let m₂ = n₂.most in let m₃ = n₃.most in
             code_zero minus t (edge_at i) (f i) (entry_edge (length es) (length ts) i c (S.matrix i c) (S.target i) a b low high)
-            (λ e. n₁.passed i h (omega arith) a (stands i _ a b e))
-            (λ e. n₂.passed i h (omega arith) a (stands i _ a b e))
+            (λ e. n₁.passed i h (before₁ i k) a (stands i _ a b e))
+            (λ e. n₂.passed i h (before₂ i k) a (stands i _ a b e))
             (λ e. n₃.passed i h k a (stands i _ a b e))
 
-        below : (i : ℕ) → first ≤ i → i < r₃ → f i ≡ 0
+        below : (i : ℕ) → first ≤ i → Before i o₃ → f i ≡ 0
         below i h k =
-            let m₁ = n₁.most in let m₂ = n₂.most in let m₃ = n₃.most in
+            let lower = before_own i k in
             ⊎_elim
             (λ (z : i ≡ 0). entry_top (length es) (length ts) i c (S.matrix i c) (S.target i) z)
             (λ (d : i ≡ 0 → ⊥). ⊎_elim
@@ -150,6 +170,10 @@ module _ (minus : ℕ) (es : List Edge) (ts : List Triangle) (fence : List ℕ) 
             (λ (g : i ≤ length es). edge_row i h k (omega (arith, d)) g)
             (cases_lt (length es) i))
             (cases_eq i 0)
+
+        found : (o : Option ℕ) → o₃ ≡ o → First f first o
+        found None e = absurd (let k = before_own (length es + c) (subst (Before (length es + c)) (sym e) tt) in omega arith)
+        found (Some r) e = ((end r e).0, (end r e).1, λ i h k. below i h (subst (Before i) (sym e) k))
 
   -- the fence's column
   module _ (first : ℕ) where
@@ -160,11 +184,10 @@ module _ (minus : ℕ) (es : List Edge) (ts : List Triangle) (fence : List ℕ) 
     abbrev along : Edge → List Edge → Bool
     along e rest = has_step_of e.a e.b rest || has_step_of e.b e.a rest
 
-    -- a search has come down to a row, with these steps still to come
-    pub record Passing (row : ℕ) (rest : List Edge) : Type 0 where
-      pub most : row ≤ length es + 1
-      pub chosen : row < length es + 1 → At g first row
-      pub passed : (i : ℕ) → first ≤ i → i < row → 1 ≤ i → i ≤ length es → along (edge_at i) rest ≡ false → g i ≡ 0
+    -- a search has come to the nearest row so far, with these steps still to come
+    pub record Passing (nearest : Option ℕ) (rest : List Edge) : Type 0 where
+      pub chosen : (r : ℕ) → nearest ≡ Some r → At g first r
+      pub passed : (i : ℕ) → first ≤ i → Before i nearest → 1 ≤ i → i ≤ length es → along (edge_at i) rest ≡ false → g i ≡ 0
 
     fence_zero : (i : ℕ) → 1 ≤ i → i ≤ length es → along (edge_at i) (steps fence) ≡ false → g i ≡ 0
     fence_zero i a b n =
@@ -172,55 +195,41 @@ module _ (minus : ℕ) (es : List Edge) (ts : List Triangle) (fence : List ℕ) 
         let p = or_parts (has_step_of e.a e.b (steps fence)) (has_step_of e.b e.a (steps fence)) n in
         entry_fence (length es) (length ts) i (S.matrix i (length ts + 1)) (S.target i) a b ∙ cond-false _ 1 _ p.0 ∙ cond-false _ minus 0 p.1
 
-    pub passing_none : Passing (length es + 1) (steps fence)
-    passing_none = record { most = omega arith; chosen = λ l. absurd (omega arith); passed = λ i h k a b n. fence_zero i a b n }
+    pub passing_none : Passing None (steps fence)
+    passing_none = record { chosen = λ r e. cc; passed = λ i h k a b n. fence_zero i a b n }
 
-    pub passing_more : (u v row r₁ r₂ : ℕ) (rest : List Edge) → Passing row (edge u v ∷ rest)
-        → Nearer g es first (edge u v) row r₁ → Nearer g es first (edge v u) r₁ r₂ → Passing r₂ rest
-    passing_more u v row r₁ r₂ rest h n₁ n₂ =
-        let m₀ = h.most in let m₁ = n₁.most in let m₂ = n₂.most in
-        record { most = omega arith; chosen = chosen; passed = passed }
+    pub passing_more : (u v : ℕ) (o o₁ o₂ : Option ℕ) (rest : List Edge) → Passing o (edge u v ∷ rest)
+        → Nearer g es first (edge u v) o o₁ → Nearer g es first (edge v u) o₁ o₂ → Passing o₂ rest
+    passing_more u v o o₁ o₂ rest h n₁ n₂ = record { chosen = at_nearer g es first _ o₁ o₂ n₂ (at_nearer g es first _ o o₁ n₁ h.chosen); passed = passed }
       where
-        chosen : r₂ < length es + 1 → At g first r₂
-        chosen l = ⊎_elim n₂.chosen
-            (λ k. let same : r₁ ≡ r₂ = let m₂ = n₂.most in omega arith in subst (At g first) same (second (let m₂ = n₂.most in omega arith)))
-            (cases_lt r₂ r₁)
-          where
-            second : r₁ < length es + 1 → At g first r₁
-            second l' = ⊎_elim n₁.chosen
-                (λ k. let same : row ≡ r₁ = let m₁ = n₁.most in omega arith in subst (At g first) same (h.chosen (let m₁ = n₁.most in omega arith)))
-                (cases_lt r₁ row)
+        edge_back : (e : Edge) (u v : ℕ) → (eqb e.b u && eqb e.a v) ≡ true → e ≡ edge v u
+        edge_back e u v y = let p = and_parts _ _ y in ap₂ edge (eqb-true e.a v p.1) (eqb-true e.b u p.0)
 
-        passed : (i : ℕ) → first ≤ i → i < r₂ → 1 ≤ i → i ≤ length es → along (edge_at i) rest ≡ false → g i ≡ 0
+        passed : (i : ℕ) → first ≤ i → Before i o₂ → 1 ≤ i → i ≤ length es → along (edge_at i) rest ≡ false → g i ≡ 0
         passed i l k a b n =
-            let m₁ = n₁.most in let m₂ = n₂.most in
+            let k₁ = n₂.sooner i k in
             let e = edge_at i in
             let p = or_parts _ _ n in
-            ⊎_elim (λ y. n₁.passed i l (omega arith) a (stands i _ a b (edge_is e u v y))) (λ x.
+            ⊎_elim (λ y. n₁.passed i l k₁ a (stands i _ a b (edge_is e u v y))) (λ x.
             ⊎_elim (λ y. n₂.passed i l k a (stands i _ a b (edge_back e u v y))) (λ z.
-            h.passed i l (omega arith) a b (or_from _ _ (or_from _ _ x p.0) (or_from _ _ z p.1)))
+            h.passed i l (n₁.sooner i k₁) a b (or_from _ _ (or_from _ _ x p.0) (or_from _ _ z p.1)))
             (cases_Bool (eqb e.b u && eqb e.a v)))
             (cases_Bool (eqb e.a u && eqb e.b v))
-          where
-            edge_back : (e : Edge) (u v : ℕ) → (eqb e.b u && eqb e.a v) ≡ true → e ≡ edge v u
-            edge_back e u v y = let p = and_parts _ _ y in ap₂ edge (eqb-true e.a v p.1) (eqb-true e.b u p.0)
 
-    before : (row : ℕ) → Passing row [] → (i : ℕ) → first ≤ i → i < row → g i ≡ 0
-    before row h i l k =
-        let m = h.most in
+    -- all steps are passed
+    quiet : (o : Option ℕ) → Passing o [] → (i : ℕ) → first ≤ i → Before i o → g i ≡ 0
+    quiet o h i l k =
         ⊎_elim
         (λ (z : i ≡ 0). entry_top (length es) (length ts) i (length ts + 1) (S.matrix i (length ts + 1)) (S.target i) z)
-        (λ (d : i ≡ 0 → ⊥). h.passed i l k (omega (arith, d)) (omega arith) refl)
+        (λ (d : i ≡ 0 → ⊥). ⊎_elim
+        (λ (m : length es < i). entry_past (length es) (length ts) i (S.matrix i (length ts + 1)) (S.target i) m)
+        (λ (m : i ≤ length es). h.passed i l k (omega (arith, d)) m refl)
+        (cases_lt (length es) i))
         (cases_eq i 0)
 
-    pub passing_found : (row : ℕ) → Passing row [] → row < length es + 1 → First g first (Some row)
-    passing_found row h l = ((h.chosen l).0, (h.chosen l).1, before row h)
-
-    pub passing_nowhere : (row : ℕ) → Passing row [] → length es + 1 ≤ row → First g first None
-    passing_nowhere row h l i k = ⊎_elim
-        (λ (m : i < row). before row h i k m)
-        (λ (m : row ≤ i). entry_past (length es) (length ts) i (S.matrix i (length ts + 1)) (S.target i) (omega arith))
-        (cases_lt i row)
+    pub passing_all : (o : Option ℕ) → Passing o [] → First g first o
+    passing_all None h = λ i l. quiet None h i l tt
+    passing_all (Some r) h = let at = h.chosen r refl in (at.0, at.1, quiet (Some r) h)
 
   -- outside the columns
   pub column_outside : (c first : ℕ) → (1 ≤ c → c ≤ length ts + 1 → ⊥) → First (λ i. starting S i c) first None

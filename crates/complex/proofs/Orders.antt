@@ -1,11 +1,15 @@
--- Lists that ascend: each element is below each later one, and what one comparison says of a whole half.
-use Rattle.std.proofs.Common.{◌≡◌, ℕ, zero, suc, ◌+◌, ◌-◌, ◌<◌, ◌≤◌, Bool, true, false, ◌&&◌, List, [], ◌∷◌, length, get_or, drop, Ordering, Less, Equal, Greater, sym, refl, ap, ◌∙◌, subst, ap₂, ⊎_elim, true≢false, arith}
-use Rattle.std.specs.List.{AllByRecursion}
-use Rattle.std.specs.Ordering.{MatchOrdering}
+-- Lists that ascend: each element is below each later one, and what a search by halves and a test of neighbours say of them.
+use Rattle.std.proofs.Common.{◌≡◌, ℕ, zero, suc, ◌+◌, ◌<◌, Bool, true, false, List, [], ◌∷◌, length, get_or, Ordering, Less, Equal, Greater, Ok, Err, Result, Option, sym, refl, ap, ◌∙◌, subst, ⊎_elim, true≢false, add-one, arith}
+use Rattle.std.specs.Cmp.{IsTotalOrder}
+use Rattle.std.specs.List.{AllByRecursion, IsAllAdjacentAnswer}
+use Rattle.std.specs.List.Sorted.{IsBinarySearchResult, IsSearchInRange, IsSortedBy}
+use Rattle.std.specs.Ordering.{is_lt, is_eq, ordering_reverse}
+use Rattle.std.specs.Result.{result_ok}
 use Rattle.std.proofs.ByRecursion.{All-get_or}
-use Rattle.std.proofs.lemmas.List.{get_or_read, at_drop_more, at_drop_all}
 use Rattle.std.proofs.lemmas.Bool.{and_parts, and_from, cases_lt}
-use Rattle.complex.specs.Orders.{ascends, ascends_from, Stands}
+use Rattle.std.proofs.lemmas.Cmp.{tied_itself}
+use Rattle.std.proofs.lemmas.List.Sorted.{searchable_from_sorted}
+use Rattle.complex.specs.Orders.{ascends, ascends_from, Stands, Found}
 
 module _ {R : Type 0} (less : R → R → Bool) where
   abbrev pub Apart : Type 0
@@ -55,63 +59,57 @@ module _ {R : Type 0} (less : R → R → Bool) where
   pub ascends_far : Chained → (xs : List R) → ascends less xs ≡ true → Ascending xs
   ascends_far ch xs e = sorted_far xs (ascends_sorted ch xs e)
 
-  -- what is not less
-  pub not_less : Apart → Chained → (x y : R) → less y x ≡ true → less x y ≡ false
-  not_less ap' ch x y h = go (less x y) refl
+  -- each below the next is enough
+  steps_from : (x : R) (xs : List R) → ((k : ℕ) (d : R) → suc k < length (x ∷ xs) → less (get_or (x ∷ xs) k d) (get_or (x ∷ xs) (suc k) d) ≡ true) → ascends_from less x xs ≡ true
+  steps_from x [] h = refl
+  steps_from x (y ∷ ys) h = and_from (less x y) (ascends_from less y ys) (h 0 x (omega arith)) (steps_from y ys (λ k d l. h (suc k) d (omega arith)))
+
+  steps_ascend : (xs : List R) → ((k : ℕ) (d : R) → suc k < length xs → less (get_or xs k d) (get_or xs (suc k) d) ≡ true) → ascends less xs ≡ true
+  steps_ascend [] h = refl
+  steps_ascend (x ∷ xs) h = steps_from x xs h
+
+  -- a test of each element and the next
+  pub adjacent_ascends : Chained → (xs : List R) (r : Bool) → IsAllAdjacentAnswer (λ x y b. b ≡ less x y) xs r → r ≡ ascends less xs
+  adjacent_ascends ch xs true h = sym (steps_ascend xs (λ k d l. rw (← add-one) (sym (h k d (omega arith)))))
+  adjacent_ascends ch [] false h = absurd (let l = h.1 in omega arith)
+  adjacent_ascends ch (x ∷ xs) false h = go (ascends less (x ∷ xs)) refl
     where
-      go : (t : Bool) → less x y ≡ t → t ≡ false
-      go true e = absurd (true≢false (sym (ch x y x e h) ∙ ap' x))
+      go : (t : Bool) → ascends less (x ∷ xs) ≡ t → false ≡ t
+      go true e = h.2 x ∙ ascends_far ch (x ∷ xs) e h.0 (h.0 + 1) x (omega arith) h.1
       go false e = refl
 
-  pub not_less_same : Apart → (x y : R) → x ≡ y → less x y ≡ false
-  not_less_same ap' x y e = ap (less x) (sym e) ∙ ap' x
+-- an order that says which of two is less
+module _ {R : Type 0} (cmp : R → R → Ordering) (total : IsTotalOrder cmp) (less : R → R → Bool) (decides : (x y : R) → is_lt (cmp x y) ≡ less x y) where
+  less_is : (x y : R) → less x y ≡ true → cmp x y ≡ Less
+  less_is x y h = go (cmp x y) (decides x y ∙ h)
+    where
+      go : (o : Ordering) → is_lt o ≡ true → o ≡ Less
+      go Less e = refl
+      go Equal e = absurd (true≢false (sym e))
+      go Greater e = absurd (true≢false (sym e))
 
--- a search that halves a list: an element x at the place m is compared with w
-module _ {R : Type 0} (less : R → R → Bool) (chained : Chained less) (xs : List R) (m : ℕ) (x w : R) (in' : m < length xs) (read : x ≡ get_or xs m x) where
-  pub lower_half : less x w ≡ true → ascends less xs ≡ true → (i : ℕ) (d : R) → i < m + 1 → i < length xs → less (get_or xs i d) w ≡ true
-  lower_half h up i d lt _ =
-      let at : less (get_or xs m d) w ≡ true = subst (λ y. less y w ≡ true) (get_or_read xs m x in' read d) h in
-      ⊎_elim (λ l. chained _ _ _ (ascends_far less chained xs up i m d l in') at) (λ g. let e : i ≡ m = omega arith in subst (λ k. less (get_or xs k d) w ≡ true) (sym e) at) (cases_lt i m)
+  pub less_apart : Apart less
+  less_apart x = sym (decides x x) ∙ ap is_lt (tied_itself total x)
 
-  pub upper_half : less w x ≡ true → ascends less xs ≡ true → (i : ℕ) (d : R) → m ≤ i → i < length xs → less w (get_or xs i d) ≡ true
-  upper_half h up i d ge lt =
-      let at : less w (get_or xs m d) ≡ true = subst (λ y. less w y ≡ true) (get_or_read xs m x in' read d) h in
-      ⊎_elim (λ l. chained _ _ _ at (ascends_far less chained xs up m i d l lt)) (λ g. let e : i ≡ m = omega arith in subst (λ k. less w (get_or xs k d) ≡ true) (sym e) at) (cases_lt m i)
+  pub less_chained : Chained less
+  less_chained x y z p q = sym (decides x z) ∙ ap is_lt (total.trans x y z (less_is x y p) (less_is y z q))
 
--- an element that stands in neither half stands nowhere
-pub nowhere : {R : Type 0} (less : R → R → Bool) → Apart less → (xs : List R) (w : R) (low high : ℕ)
-    → ((i : ℕ) (d : R) → i < low → i < length xs → less (get_or xs i d) w ≡ true) → ((i : ℕ) (d : R) → high ≤ i → i < length xs → less w (get_or xs i d) ≡ true)
-    → high ≤ low → (i : ℕ) → Stands xs i w → ⊥
-nowhere less apart xs w low high below above met i s =
-    ⊎_elim
-    (λ l. true≢false (sym (subst (λ y. less y w ≡ true) (s.1 w) (below i w l s.0)) ∙ apart w))
-    (λ g. true≢false (sym (subst (λ y. less w y ≡ true) (s.1 w) (above i w (omega arith) s.0)) ∙ apart w))
-    (cases_lt i low)
+  sorted_by : (xs : List R) → ascends less xs ≡ true → IsSortedBy (λ x y. is_lt (cmp x y)) xs
+  sorted_by xs up k d _ l =
+      let below = less_is (get_or xs k d) (get_or xs (k + 1) d) (ascends_far less less_chained xs up k (k + 1) d (omega arith) l) in
+      ap is_lt (total.antisymm (get_or xs (k + 1) d) (get_or xs k d) ∙ ap ordering_reverse below)
 
--- a loop that compares each element with the one before it: at the place i, what is still to be compared
-abbrev pub rest_ascends : {R : Type 0} → (R → R → Bool) → List R → ℕ → Bool
-rest_ascends less [] i = true
-rest_ascends less (x ∷ xs) i = ascends_from less (get_or (x ∷ xs) (i - 1) x) (drop i (x ∷ xs))
-
-pub rest_more : {R : Type 0} (less : R → R → Bool) (xs : List R) (i : ℕ) (x y : R) (b : Bool) → 1 ≤ i → i < length xs
-    → x ≡ get_or xs (i - 1) x → y ≡ get_or xs i y → less x y ≡ b → rest_ascends less xs i ≡ (b && rest_ascends less xs (i + 1))
-rest_more less [] i x y b l h ex ey t = absurd (omega arith)
-rest_more less (z ∷ zs) i x y b l h ex ey t =
-    let xs = z ∷ zs in
-    let first : get_or xs (i - 1) z ≡ x = sym (get_or_read xs (i - 1) x (omega arith) ex z) in
-    let second : get_or xs i z ≡ y = sym (get_or_read xs i y h ey z) in
-    let at : i ≡ i + 1 - 1 = omega arith in
-    at_drop_more (ascends_from less (get_or xs (i - 1) z)) xs i z h
-    ∙ ap₂ (λ p q. less p q && ascends_from less (get_or xs i z) (drop (i + 1) xs)) first second
-    ∙ ap₂ (λ p k. p && ascends_from less (get_or xs k z) (drop (i + 1) xs)) t at
-
-pub rest_all : {R : Type 0} (less : R → R → Bool) (xs : List R) (i : ℕ) → length xs ≤ i → rest_ascends less xs i ≡ true
-rest_all less [] i l = refl
-rest_all less (z ∷ zs) i l = at_drop_all (ascends_from less (get_or (z ∷ zs) (i - 1) z)) (z ∷ zs) i l
-
--- a comparison that is not `Less`
-pub ranked_not : {R : Type 0} (less : R → R → Bool) → Apart less → Chained less → (x y : R) (o : Ordering)
-    → MatchOrdering o (less x y ≡ true) (x ≡ y) (less y x ≡ true) → (o ≡ Less → ⊥) → less x y ≡ false
-ranked_not less ap' ch x y Less r n = absurd (n refl)
-ranked_not less ap' ch x y Equal r n = not_less_same less ap' x y r
-ranked_not less ap' ch x y Greater r n = not_less less ap' ch x y r
+  -- what a search by halves finds, where records that tie are the same
+  pub found_by : ((x y : R) → cmp x y ≡ Equal → x ≡ y) → (xs : List R) (x : R) (r : Result ℕ ℕ) (o : Option ℕ) → o ≡ result_ok r
+      → IsSearchInRange r (length xs) → IsBinarySearchResult (λ y. cmp y x) xs r → Found less xs x o
+  found_by same xs x (Ok i) o e b h = subst (Found less xs x) (sym e) (b, λ d. same _ x (h d))
+  found_by same xs x (Err i) o e b h = subst (Found less xs x) (sym e) nowhere
+    where
+      nowhere : ascends less xs ≡ true → (k : ℕ) → Stands xs k x → ⊥
+      nowhere up k s =
+          let at = h (searchable_from_sorted total (λ y. y) xs x (sorted_by xs up)) in
+          let tied : cmp (get_or xs k x) x ≡ Equal = ap (λ y. cmp y x) (s.1 x) ∙ tied_itself total x in
+          ⊎_elim
+          (λ l. true≢false (ap is_eq (sym tied ∙ at.0 k x (omega arith) l)))
+          (λ g. true≢false (ap is_eq (sym tied ∙ at.1 k x g s.0)))
+          (cases_lt k i)

@@ -1,5 +1,5 @@
--- Listed edges, triangles and a fence in memory as the starting matrix, and a search in one of its columns.
-use Rattle.std.specs.Prelude.{◌≡◌, ℕ, ◌+◌, ◌-◌, ◌<◌, ◌≤◌, Bool, true, false, cond, ◌&&◌, List, [], length, ◌≢◌, nat_le, refl}
+-- The boundary grid in memory as the starting matrix, and a search in one of its columns.
+use Rattle.std.specs.Prelude.{◌≡◌, ℕ, ◌+◌, ◌-◌, ◌<◌, ◌≤◌, Bool, true, false, cond, ◌&&◌, ◌⊎◌, List, [], length, Some, None, Option, ◌≢◌, nat_le, refl}
 use Rattle.std.proofs.Common.{◌∙◌, arith}
 use Rattle.std.proofs.lemmas.Bool.{and_parts, and_from, le-leb, leb-true, ltb-true, eqb-true, both_ways}
 use Rattle.field.specs.Arithmetic.{Arithmetic}
@@ -7,21 +7,13 @@ use Rattle.matrix.specs.Matrix.{Matrix, Outside}
 use Rattle.survey.specs.declared.edge.Edge.{Edge}
 use Rattle.survey.specs.declared.edge.Triangle.{Triangle}
 use Rattle.survey.specs.Surveys.{Survey, Sensors, Valid, edges, triangles}
-use Rattle.complex.specs.declared.lists.Lists.{Lists}
+use Rattle.complex.specs.declared.boundary_grid.BoundaryGrid.{BoundaryGrid}
 use Rattle.complex.specs.Boundaries.{listed_system, system}
 use Rattle.complex.specs.Orders.{ascends, edge_less, Stands}
 use Rattle.complex.specs.Systems.{System, starting_matrix}
 
-abbrev pub matrix_of : Lists → Matrix
-matrix_of l = starting_matrix (listed_system l.minus l.edges.now l.triangles.now l.fence.now)
-
--- as many edges and triangles as a survey can have, or fewer
-abbrev pub Few : Lists → Type 0
-Few l = (length l.edges.now ≤ 512) × (length l.triangles.now ≤ 1024)
-
--- the edges ascend as well
-abbrev pub Ordered : Lists → Type 0
-Ordered l = Few l × (ascends edge_less l.edges.now ≡ true)
+abbrev pub matrix_of : BoundaryGrid → Matrix
+matrix_of g = starting_matrix (listed_system g.minus g.edges.now g.triangles.now g.fence.now)
 
 -- the list, if it ascends and is no longer than a survey's can be; else none
 abbrev pub usable_edges_of : List Edge → List Edge
@@ -35,12 +27,17 @@ abbrev pub OfSurveys : List Edge → List Triangle → List ℕ → ℕ → Matr
 OfSurveys es ts fence minus m = (s : Survey) (on : Sensors) (F : Arithmetic) → Valid s
     → es ≡ edges s on → ts ≡ triangles s on → fence ≡ s.fence → minus ≡ F.negative 1 → m ≡ starting_matrix (system s on F)
 
--- a search for the first nonzero row of a column f from `first` on has come down from a row to the row r: a nonzero one, if
--- it is another, and the rows from `first` to below r that hold the edge e are zero
-pub record Nearer (f : ℕ → ℕ) (es : List Edge) (first : ℕ) (e : Edge) (row r : ℕ) : Type 0 where
-  pub most : r ≤ row
-  pub chosen : r < row → (first ≤ r) × (f r ≢ 0)
-  pub passed : (i : ℕ) → first ≤ i → i < r → 1 ≤ i → Stands es (i - 1) e → f i ≡ 0
+-- is the row i before the one that was found, if one was?
+abbrev pub Before : ℕ → Option ℕ → Type 0
+Before i None = Unit {0}
+Before i (Some r) = i < r
+
+-- a search for the first nonzero row of a column f from `first` on has come from one row, or none, to the nearest so far: a
+-- nonzero one, if it is another, and the rows from `first` to before it that hold the edge e are zero
+pub record Nearer (f : ℕ → ℕ) (es : List Edge) (first : ℕ) (e : Edge) (so_far nearest : Option ℕ) : Type 0 where
+  pub sooner : (i : ℕ) → Before i nearest → Before i so_far
+  pub chosen : (r : ℕ) → nearest ≡ Some r → (so_far ≡ Some r) ⊎ ((first ≤ r) × (f r ≢ 0))
+  pub passed : (i : ℕ) → first ≤ i → Before i nearest → 1 ≤ i → Stands es (i - 1) e → f i ≡ 0
 
 -- outside its shape the starting matrix is 0
 pub starting_outside : (S : System) → Outside (starting_matrix S)

@@ -1,6 +1,5 @@
 // What boundaries and the fence have on an edge, where `minus` is the field's code for -1.
-ghost use Rattle.std.specs.Prelude.{◌≡◌, ◌<◌, ◌&&◌, length, ◌==◌, slice_index};
-ghost use Rattle.survey.specs.Lists.{after};
+ghost use Rattle.std.specs.Prelude.{◌≡◌};
 ghost use Rattle.survey.specs.Surveys.{steps};
 ghost use Rattle.complex.specs.Boundaries.{boundary_code_of, fence_code_of, has_step_of};
 
@@ -11,35 +10,26 @@ use survey::fence::next;
 pub fn boundary_code(triangle: Triangle, edge: Edge, minus: u16) -> u16
     ensures { result ≡ boundary_code_of minus triangle edge }
 {
-    if edge.a == triangle.b && edge.b == triangle.c {
+    let Triangle { a, b, c } = triangle;
+    if edge == (Edge { a: b, b: c }) {
         1
-    } else if edge.a == triangle.a && edge.b == triangle.c {
+    } else if edge == (Edge { a, b: c }) {
         minus
-    } else if edge.a == triangle.a && edge.b == triangle.b {
+    } else if edge == (Edge { a, b }) {
         1
     } else {
         0
     }
 }
 
-// Does the step from the place `i` go from `u` to `v`?
-fn goes(fence: &[u16], i: usize, u: u16, v: u16) -> bool
-    requires { i < length fence.now }
-    ensures { result ≡ (u == slice_index fence.now i && v == after fence.now i) }
-{
-    u == fence[i] && v == next(fence, i)
-}
-
 // Does a step round the fence go from `u` to `v`?
 pub fn has_step(fence: &[u16], u: u16, v: u16) -> bool
     ensures { result ≡ has_step_of u v (steps fence.now) }
 {
-    for i in 0..fence.len() {
-        if goes(fence, i, u, v) {
-            return true;
-        }
-    }
-    false
+    fence
+        .iter()
+        .enumerate()
+        .any(|(i, x)| u == *x && v == next(fence, i))
 }
 
 // What the fence has on an edge.

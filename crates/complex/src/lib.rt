@@ -4,6 +4,5 @@
 pub mod boundary;
 pub mod boundary_grid;
 pub mod listing;
-mod lists;
 pub mod order;
 pub mod theorems;

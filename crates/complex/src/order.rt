@@ -1,80 +1,47 @@
 // Total orders, the one search in a list that ascends, and the lexicographic orders of edges and triangles.
-ghost use Rattle.std.specs.Prelude.{◌≡◌, Bool, true, false};
-ghost use Rattle.std.specs.Ordering.{MatchOrdering};
-ghost use Rattle.complex.specs.OrderLaws.{edge_apart, edge_chained, triangle_apart, triangle_chained};
+ghost use Rattle.std.specs.Prelude.{◌≡◌, Bool};
+ghost use Rattle.std.specs.Ordering.{is_lt};
+ghost use Rattle.std.specs.declared.cmp.Ordering.TheVariants.{Equal};
+ghost use Rattle.complex.specs.OrderLaws.{edge_decides, edge_same, triangle_decides, triangle_same};
 ghost use Rattle.complex.specs.Orders.{ascends, Found, edge_less, triangle_less};
 
-use std::cmp::Ordering;
 use survey::edge::{Edge, Triangle};
 
-pub trait TotalOrder {
+// `Ord` alone may call two different records equal.
+pub trait TotalOrder: Ord {
     ghost less: { Self → Self → Bool };
 
-    fn compare(&self, other: &Self) -> Ordering
-        ensures { MatchOrdering result (less self.now other.now ≡ true) (self.now ≡ other.now) (less other.now self.now ≡ true) };
+    ghost decides: { (x y : Self) → is_lt (Self.cmp x y) ≡ less x y };
 
-    ghost apart: { (x : Self) → less x x ≡ false };
-
-    ghost chained: { (x y z : Self) → less x y ≡ true → less y z ≡ true → less x z ≡ true };
+    ghost same: { (x y : Self) → Self.cmp x y ≡ Equal → x ≡ y };
 }
 
 // The place of a record in a list that ascends, exactly when it is there. In any list, a place that is found holds the record.
 pub fn find<R: TotalOrder>(list: &[R], wanted: &R) -> Option<usize>
     ensures { Found R.TotalOrder.less list.now wanted.now result }
 {
-    let mut low = 0;
-    let mut high = list.len();
-    while low < high {
-        let middle = low + (high - low) / 2;
-        match list[middle].compare(wanted) {
-            Ordering::Less => low = middle + 1,
-            Ordering::Equal => return Some(middle),
-            Ordering::Greater => high = middle,
-        }
-    }
-    None
+    list.binary_search(wanted).ok()
 }
 
 // Is each record above the one before it?
 pub fn is_ascending<R: TotalOrder>(list: &[R]) -> bool
     ensures { result ≡ ascends R.TotalOrder.less list.now }
 {
-    for i in 1..list.len() {
-        match list[i - 1].compare(&list[i]) {
-            Ordering::Less => {}
-            _ => return false,
-        }
-    }
-    true
+    list.is_sorted_by(|x, y| x < y)
 }
 
 impl TotalOrder for Edge {
     ghost less = { edge_less };
 
-    ghost apart = { edge_apart };
+    ghost decides = { edge_decides };
 
-    ghost chained = { edge_chained };
-
-    fn compare(&self, other: &Edge) -> Ordering {
-        match self.a.cmp(&other.a) {
-            Ordering::Equal => self.b.cmp(&other.b),
-            order => order,
-        }
-    }
+    ghost same = { edge_same };
 }
 
 impl TotalOrder for Triangle {
     ghost less = { triangle_less };
 
-    ghost apart = { triangle_apart };
+    ghost decides = { triangle_decides };
 
-    ghost chained = { triangle_chained };
-
-    fn compare(&self, other: &Triangle) -> Ordering {
-        match (self.a.cmp(&other.a), self.b.cmp(&other.b)) {
-            (Ordering::Equal, Ordering::Equal) => self.c.cmp(&other.c),
-            (Ordering::Equal, order) => order,
-            (order, _) => order,
-        }
-    }
+    ghost same = { triangle_same };
 }

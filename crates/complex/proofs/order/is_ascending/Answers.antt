@@ -1,17 +1,16 @@
--- One comparison more.
-use Rattle.std.proofs.Common.{true, false, sym, ◌∙◌, arith}
-use Rattle.complex.proofs.Orders.{rest_more, rest_all, ranked_not}
+-- The closure asks whether one record is below the next.
+use Rattle.std.proofs.Common.{rules, ◌≡◌, ap, ◌∙◌}
+use Rattle.std.specs.Ordering.{is_lt, is_some_and}
+use Rattle.std.proofs.lemmas.List.Sorted.{answers_always}
+use Rattle.complex.proofs.Orders.{less_chained, adjacent_ascends}
 use Rattle.complex.proofs.order.is_ascending.Goals as goal
 
-pub returns-in_default : goal.returns-in_default
-returns-in_default g c =
-    let order = g.met.R.TotalOrder in
-    let less = ranked_not g.R.TotalOrder.less order.apart order.chained _ _ c.compare.result c.compare.ensures c.in_default.not-Less in
-    sym (rest_more g.R.TotalOrder.less _ _ _ _ false (omega arith) c.loop-i-test.true c.index-list-i.is c.index-list-i-in-loop-i.is less) ∙ c.loop-i.invariant
-
-pub loop-i-preserved : goal.loop-i-preserved
-loop-i-preserved g c =
-    sym (rest_more g.R.TotalOrder.less _ _ _ _ true (omega arith) c.loop-i-test.true c.index-list-i.is c.index-list-i-in-loop-i.is c.in-Less.ensures) ∙ c.loop-i.invariant
-
 pub returns : goal.returns
-returns g c = sym (rest_all g.R.TotalOrder.less _ _ c.loop-i-test.false) ∙ c.loop-i.invariant
+returns g c =
+    let less = g.R.TotalOrder.less in
+    let decides = g.met.R.TotalOrder.decides in
+    let agrees = g.met.R.Ord.matches_partial_cmp in
+    adjacent_ascends less (less_chained g.R.Ord.cmp g.met.R.Ord.total less decides) _ _
+    (c.is_sorted_by.ensures.cases less (answers_always _ _ _ (λ f a r f' called.
+    let asked : r ≡ is_some_and is_lt (g.R.PartialOrd.partial_cmp a.0.now a.1.0.now) = search rules in
+    asked ∙ ap (is_some_and is_lt) (agrees a.0.now a.1.0.now) ∙ decides a.0.now a.1.0.now)))

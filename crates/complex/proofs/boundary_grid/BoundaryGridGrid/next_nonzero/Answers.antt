@@ -4,11 +4,11 @@ use Rattle.matrix.proofs.Nonzeros.{next_by}
 use Rattle.complex.specs.Boundaries.{listed_system}
 use Rattle.complex.specs.Grids.{matrix_of, starting_outside}
 use Rattle.complex.proofs.Columns.{column_outside}
-use Rattle.complex.proofs.lists.Lists.next_nonzero.Goals as goal
+use Rattle.complex.proofs.boundary_grid.BoundaryGridGrid.next_nonzero.Goals as goal
 
 pub returns-then-column-triangles : goal.returns-then-column-triangles
 returns-then-column-triangles c =
-    let l = c.args.self.now in
-    let S = listed_system l.minus l.edges.now l.triangles.now l.fence.now in
-    next_by (matrix_of l) c.args.column c.args.first None (starting_outside S)
-    (column_outside l.minus l.edges.now l.triangles.now l.fence.now c.args.column c.args.first (λ a b. grind arith))
+    let g = c.args.self.now in
+    let S = listed_system g.minus g.edges.now g.triangles.now g.fence.now in
+    next_by (matrix_of g) c.args.column c.args.first None (starting_outside S)
+    (column_outside g.minus g.edges.now g.triangles.now g.fence.now c.args.column c.args.first (λ a b. grind arith))

@@ -1,0 +1,75 @@
+// The first nonzero row of a column, by looking up the few edges whose rows can be nonzero.
+ghost use Rattle.std.specs.Prelude.{◌≡◌, ℕ, ◌+◌, ◌-◌, ◌≤◌, ◌↔◌, true, length, IsTrue};
+ghost use Rattle.matrix.specs.Nonzero.{next_in};
+ghost use Rattle.complex.specs.Grids.{matrix_of, Before, Nearer};
+ghost use Rattle.complex.specs.Orders.{Stands};
+
+use super::BoundaryGrid;
+use crate::order::find;
+use matrix::grid::Grid;
+use survey::edge::{Edge, Triangle};
+use survey::fence::next;
+
+// Is the row before the one found, if one was?
+fn is_before(row: u32, found: Option<u32>) -> bool
+    ensures { IsTrue result ↔ Before row found }
+{
+    found.is_none_or(|found| row < found)
+}
+
+impl<'e, 't, 'f> BoundaryGrid<'e, 't, 'f> {
+    // Does the edge come before that of the row, so that it stands in no row from there on?
+    fn is_past(&self, row: u32, edge: Edge) -> bool
+        ensures { result ≡ true → (i : ℕ) → row ≤ i → 1 ≤ i → Stands self.now.edges.now (i - 1) edge → ⊥ }
+    {
+        let place = row.saturating_sub(1) as usize;
+        place >= self.edges.len() || edge < self.edges[place]
+    }
+
+    // The nearest of the row found so far and that of the edge, if this is nonzero in the column and lies from `first` on.
+    fn nearer(&self, column: u32, first: u32, edge: Edge, so_far: Option<u32>) -> Option<u32>
+        ensures { Nearer (λ i. (matrix_of self.now).at i column) self.now.edges.now first edge so_far result }
+    {
+        if self.is_past(first, edge) {
+            return so_far;
+        }
+        let Some(place) = find(self.edges, &edge) else {
+            return so_far;
+        };
+        let row = place as u32 + 1;
+        if first <= row && is_before(row, so_far) && self.entry(row, column) != 0 {
+            Some(row)
+        } else {
+            so_far
+        }
+    }
+
+    // In the column of a triangle only its own row and those of its three edges can be nonzero.
+    pub(crate) fn next_in_boundary(&self, column: u32, first: u32) -> Option<u32>
+        requires { (1 ≤ column) × (column ≤ length self.now.triangles.now) }
+        ensures { result ≡ next_in (matrix_of self.now) column first }
+    {
+        let own = self.edges.len() as u32 + column;
+        if first > own {
+            return None;
+        }
+        let Triangle { a, b, c } = self.triangles[column as usize - 1];
+        let nearest = self.nearer(column, first, Edge { a: b, b: c }, Some(own));
+        let nearest = self.nearer(column, first, Edge { a, b: c }, nearest);
+        self.nearer(column, first, Edge { a, b }, nearest)
+    }
+
+    // In the column of the fence only the rows of its steps can be nonzero.
+    pub(crate) fn next_in_fence(&self, first: u32) -> Option<u32>
+        ensures { result ≡ next_in (matrix_of self.now) (length self.now.triangles.now + 1) first }
+    {
+        let column = self.triangles.len() as u32 + 1;
+        let mut nearest = None;
+        for (i, from) in self.fence.iter().enumerate() {
+            let to = next(self.fence, i);
+            let forth = self.nearer(column, first, Edge { a: *from, b: to }, nearest);
+            nearest = self.nearer(column, first, Edge { a: to, b: *from }, forth);
+        }
+        nearest
+    }
+}
