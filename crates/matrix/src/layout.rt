@@ -1,5 +1,5 @@
 // Entries column by column: the place of one, and what it counts for.
-ghost use Rattle.std.specs.Prelude.{◌≡◌, ◌*◌};
+ghost use Rattle.std.specs.Prelude.{◌≡◌, ◌*◌, ◌^◌, ◌<◌};
 ghost use Rattle.matrix.specs.Matrix.{one_if_not_zero};
 ghost use Rattle.matrix.specs.Layout.{place, place_in};
 
@@ -18,9 +18,10 @@ impl Shape {
         self.rows as u64 * self.columns as u64
     }
 
-    // The place of an entry, where it lies in the shape.
+    // The place of an entry, where it lies in the shape. `range` is for a caller that has the shape behind a reference.
     pub fn place(self, row: u32, column: u32) -> Option<usize>
-        ensures { result ≡ place_in self.rows self.columns row column }
+        ensures place { result ≡ place_in self.rows self.columns row column }
+        ensures range { (self.rows < 2 ^ 32) × (self.columns < 2 ^ 32) }
     {
         let inside = (1..=self.rows).contains(&row) && (1..=self.columns).contains(&column);
         inside.then(|| place_of(self.rows, row, column))
