@@ -1,12 +1,13 @@
 -- Entries column by column: a place that changes is one entry of the matrix that changes.
-use Rattle.std.proofs.Common.{◌≡◌, ℕ, ◌+◌, ◌-◌, ◌*◌, ◌/◌, ◌%◌, ◌<◌, ◌≤◌, true, false, cond, ◌&&◌, eqb, leb, sym, ap, ◌∙◌, ⊎_elim, mul_comm, arith}
+use Rattle.std.proofs.Common.{◌≡◌, ℕ, ◌+◌, ◌-◌, ◌*◌, ◌/◌, ◌%◌, ◌^◌, ◌<◌, ◌≤◌, true, false, cond, ◌&&◌, eqb, leb, Option, Some, None, sym, ap, ◌∙◌, ⊎_elim, mul_comm, arith}
 use lib.Arith.{digits_lt, digits_div, digits_mod}
 use Rattle.std.proofs.lemmas.Bool.{eq-eqb, ne_eqb, cases_Bool, cases_eq, cond-true, cond-false, and_parts, leb-true, eqb-true, and_from, le-leb}
+use Rattle.std.proofs.lemmas.Nat.{mul-le}
 use Rattle.refusal.specs.Outcomes.{accepted}
 use Rattle.matrix.specs.Matrix.{inside, blank, count, one_if_not_zero, put_at, put_into}
-use Rattle.matrix.specs.Layout.{place, laid}
+use Rattle.matrix.specs.Layout.{place, place_in, laid}
 use Rattle.matrix.specs.Terms.{Terms, limit_of, put_outcome, put_after}
-use Rattle.matrix.proofs.Counts.{count_put}
+use Rattle.matrix.proofs.Counts.{count_put, count_le, one_if_not_zero_le}
 use Rattle.matrix.proofs.Matrices.{same_entries}
 use Rattle.matrix.proofs.Puts.{roomy_put, put_done}
 
@@ -30,6 +31,19 @@ is_in n k i j e =
 
 pub in_is : (n k i j : ℕ) → In n k i j → inside n k i j ≡ true
 in_is n k i j h = and_from _ _ (and_from _ _ (le-leb 1 i h.row_from) (le-leb i n h.row_to)) (and_from _ _ (le-leb 1 j h.column_from) (le-leb j k h.column_to))
+
+-- the place that code finds
+pub place_some : (n k i j p : ℕ) → Some p ≡ place_in n k i j → In n k i j × (p ≡ place n i j)
+place_some n k i j p e = ⊎_elim
+    (λ (y : inside n k i j ≡ true). let at : p ≡ place n i j = cc (cond-true (inside n k i j) (Some (place n i j)) None y) in (is_in n k i j y, at))
+    (λ (z : inside n k i j ≡ false). let no' : ◌≡◌ {A = Option ℕ} (Some p) None = e ∙ cond-false (inside n k i j) _ _ z in absurd cc)
+    (cases_Bool (inside n k i j))
+
+pub place_none : (n k i j : ℕ) → None ≡ place_in n k i j → inside n k i j ≡ false
+place_none n k i j e = ⊎_elim
+    (λ (y : inside n k i j ≡ true). let no' : ◌≡◌ {A = Option ℕ} None (Some (place n i j)) = e ∙ cond-true (inside n k i j) _ _ y in absurd cc)
+    (λ (z : inside n k i j ≡ false). z)
+    (cases_Bool (inside n k i j))
 
 pub place_lt : (n k i j : ℕ) → In n k i j → place n i j < n * k
 place_lt n k i j h =
@@ -97,6 +111,10 @@ pub record Changed (n k : ℕ) (f g : ℕ → ℕ) (i j v p : ℕ) : Type 0 wher
   pub at : p ≡ place n i j
   pub places : (q : ℕ) → q < n * k → g q ≡ cond (eqb q p) v (f q)
 
+-- where code found the place
+pub changed_from : (n k : ℕ) (f g : ℕ → ℕ) (i j v p : ℕ) → Some p ≡ place_in n k i j → ((q : ℕ) → q < n * k → g q ≡ cond (eqb q p) v (f q)) → Changed n k f g i j v p
+changed_from n k f g i j v p e h = let s = place_some n k i j p e in record { inside = s.0; at = s.1; places = h }
+
 changed_put : (n k : ℕ) (f g : ℕ → ℕ) (i j v p : ℕ) → Changed n k f g i j v p → laid n k g ≡ put_into (laid n k f) (put_at i j v)
 changed_put n k f g i j v p h = laid_put n k f g i j v h.inside (λ q l. h.places q l ∙ ap (λ x. cond (eqb q x) v (f q)) h.at)
 
@@ -119,3 +137,8 @@ changed_counts n k f g i j v p used new old h e is was =
     ∙ count_put (laid n k f) (put_at i j v) (in_is n k i j h.inside)
     ∙ ap (λ u. u + one_if_not_zero v) (sym e) in
     (omega (arith, both), omega (arith, both))
+
+-- and the sum on the way fits
+pub counts_fit : (n k : ℕ) (f : ℕ → ℕ) (v used new : ℕ) → n < 2 ^ 32 → k < 2 ^ 32 → used ≡ count (laid n k f) → new ≡ one_if_not_zero v → used + new < 2 ^ 64
+counts_fit n k f v used new p q e is =
+    omega (arith, e, is, one_if_not_zero_le v, count_le (laid n k f), mul-le n k 4294967295 4294967295 (omega arith) (omega arith))

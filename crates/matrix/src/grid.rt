@@ -24,25 +24,15 @@ pub trait Grid {
     fn next_nonzero(&self, column: u32, first: u32) -> Option<u32>
         ensures { result ≡ next_in (holds self.now) column first }
     {
-        for row in first..=self.rows() {
-            if self.entry(row, column) != 0 {
-                return Some(row);
-            }
-        }
-        None
+        (first..=self.rows()).find(|row| self.entry(*row, column) != 0)
     }
 
     // The last row of the column, up to a row, whose entry is not 0.
     fn last_nonzero(&self, column: u32, last: u32) -> Option<u32>
         ensures { result ≡ last_in (holds self.now) column last }
     {
-        let mut row = last.min(self.rows());
-        while row > 0 {
-            if self.entry(row, column) != 0 {
-                return Some(row);
-            }
-            row -= 1;
-        }
-        None
+        (1..=last.min(self.rows()))
+            .rev()
+            .find(|row| self.entry(*row, column) != 0)
     }
 }

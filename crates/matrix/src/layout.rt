@@ -1,7 +1,32 @@
 // Entries column by column: the place of one, and what it counts for.
-ghost use Rattle.std.specs.Prelude.{◌≡◌};
+ghost use Rattle.std.specs.Prelude.{◌≡◌, ◌*◌, ◌^◌, ◌<◌};
 ghost use Rattle.matrix.specs.Matrix.{one_if_not_zero};
-ghost use Rattle.matrix.specs.Layout.{place};
+ghost use Rattle.matrix.specs.Layout.{place, place_in};
+
+// The shape of a matrix.
+#[derive(Clone, Copy, Debug)]
+pub struct Shape {
+    pub rows: u32,
+    pub columns: u32,
+}
+
+impl Shape {
+    // How many entries it has.
+    pub fn size(self) -> u64
+        ensures { result ≡ self.rows * self.columns }
+    {
+        self.rows as u64 * self.columns as u64
+    }
+
+    // The place of an entry, where it lies in the shape. `range` is for a caller that has the shape behind a reference.
+    pub fn place(self, row: u32, column: u32) -> Option<usize>
+        ensures place { result ≡ place_in self.rows self.columns row column }
+        ensures range { (self.rows < 2 ^ 32) × (self.columns < 2 ^ 32) }
+    {
+        let inside = (1..=self.rows).contains(&row) && (1..=self.columns).contains(&column);
+        inside.then(|| place_of(self.rows, row, column))
+    }
+}
 
 // The place of an entry, counted from 0, where each column has so many rows.
 pub fn place_of(rows: u32, row: u32, column: u32) -> usize
@@ -14,5 +39,5 @@ pub fn place_of(rows: u32, row: u32, column: u32) -> usize
 pub fn not_zero(code: u16) -> u64
     ensures { result ≡ one_if_not_zero code }
 {
-    if code == 0 { 0 } else { 1 }
+    u64::from(code != 0)
 }

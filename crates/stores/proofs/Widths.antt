@@ -82,9 +82,6 @@ pub bits_lack : (w n s : ℕ) → Whole w → s * per_byte_of w < n → 8 * s < 
 bits_lack w n s h l =
     omega (arith, mul-le (s * per_byte_of w + 1) w n w (omega arith) (omega arith), eight_times w s h, add-mul (s * per_byte_of w) 1 w, bits_pos w h)
 
-pub per_le : (w : ℕ) → Whole w → per_byte_of w ≤ 8
-per_le w h = omega (arith, mul-le 1 (per_byte_of w) w (per_byte_of w) (bits_pos w h) (omega arith))
-
 -- a place lies in no later byte than one that follows it
 byte_le : (per p q : ℕ) → 0 < per → p ≤ q → p / per ≤ q / per
 byte_le per p q h l = let lt : p / per < q / per + 1 = div_below p per (q / per + 1) h (omega (arith, div-add-mod' q per, mod_below q per h, add-mul (q / per) 1 per)) in omega arith
@@ -101,10 +98,9 @@ module _ (w per : ℕ) (h : Whole w) (is : per ≡ per_byte_of w) where
     omega (arith, div_below (end - 1) per s pos (omega (arith, ap (λ x. s * x) is))),
   )
 
-  -- the places of these bytes end less than a byte's behind `end`
-  pub places_until : (end r : ℕ) → 0 < end → r ≤ (end - 1) / per + 1 → r * per ≤ end + 7
-  places_until end r l le =
-      omega (arith, mul-le r per ((end - 1) / per + 1) per le (omega arith), add-mul ((end - 1) / per) 1 per, div-add-mod' (end - 1) per, per_le w h, is)
+  -- the places of these bytes reach `end`
+  pub places_until : (end : ℕ) → 0 < end → end ≤ ((end - 1) / per + 1) * per
+  places_until end l = omega (arith, add-mul ((end - 1) / per) 1 per, div-add-mod' (end - 1) per, mod_below (end - 1) per pos)
 
   -- where the byte of a place and those behind it are empty, all of their places are passed
   pub passed_bytes : (xs : List ℕ) (start p r : ℕ) → get_or xs (p / per) 0 ≡ 0 → p / per + 1 ≤ r → ((i : ℕ) → p / per + 1 ≤ i → i < r → get_or xs i 0 ≡ 0)

@@ -1,5 +1,5 @@
 -- Codes of w bits each in a row of bytes, the first in the lowest bits; w is 1, 2, 4 or 8.
-use Rattle.std.specs.Prelude.{◌≡◌, ℕ, ◌+◌, ◌*◌, ◌/◌, ◌%◌, ◌^◌, ◌<◌, ◌≤◌, min, cond, ◌||◌, List, ◌==◌, ◌≢◌, slice_index}
+use Rattle.std.specs.Prelude.{◌≡◌, ℕ, ◌+◌, ◌*◌, ◌/◌, ◌%◌, ◌^◌, ◌<◌, ◌≤◌, min, cond, ◌||◌, List, ◌==◌, ◌≢◌, Option, Some, None, slice_index}
 use Rattle.refusal.specs.declared.Refusal.TheVariants.{EntryWidth}
 use Rattle.refusal.specs.Numbers.{number_of}
 use Rattle.refusal.specs.Outcomes.{Outcome, accepted, refused}
@@ -28,8 +28,7 @@ bytes_for w n = n / per_byte_of w + min 1 (n % per_byte_of w)
 abbrev pub replaced : ℕ → ℕ → ℕ → ℕ → ℕ
 replaced byte e w v = byte / 2 ^ (e + w) * 2 ^ (e + w) + v * 2 ^ e + byte % 2 ^ e
 
--- r is the first place from `start` on, before `end`, at which f is not zero, or lies from `end` on where there is none
-pub record Scanned (f : ℕ → ℕ) (start end r : ℕ) : Type 0 where
-  pub from : start ≤ r
-  pub passed : (q : ℕ) → start ≤ q → q < r → f q ≡ 0
-  pub found : r < end → f r ≢ 0
+-- what it is to be the first place from `start` on, before `end`, at which f is not zero, or that there is none
+abbrev pub Scanned : (ℕ → ℕ) → ℕ → ℕ → Option ℕ → Type 0
+Scanned f start end None = (q : ℕ) → start ≤ q → q < end → f q ≡ 0
+Scanned f start end (Some r) = (start ≤ r) × (r < end) × (f r ≢ 0) × ((q : ℕ) → start ≤ q → q < r → f q ≡ 0)

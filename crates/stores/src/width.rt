@@ -11,16 +11,26 @@ pub struct EntryWidth {
     ghost whole: { bits * per_byte_of bits ≡ 8 },
 }
 
+impl TryFrom<u32> for EntryWidth {
+    type Error = Refusal;
+
+    ghost try_from_gives = { λ w r. outcome (λ e. e.bits) r ≡ entry_width w };
+
+    fn try_from(w: u32) -> Result<Self, Refusal> {
+        if matches!(w, 1 | 2 | 4 | 8) {
+            Ok(EntryWidth { bits: w })
+        } else {
+            Err(Refusal::EntryWidth)
+        }
+    }
+}
+
 impl EntryWidth {
     // A width of 1, 2, 4 or 8 bits.
     pub fn check(w: u32) -> Result<EntryWidth, Refusal>
         ensures { outcome (λ e. e.bits) result ≡ entry_width w }
     {
-        if w == 1 || w == 2 || w == 4 || w == 8 {
-            Ok(EntryWidth { bits: w })
-        } else {
-            Err(Refusal::EntryWidth)
-        }
+        EntryWidth::try_from(w)
     }
 
     // The number of bits.

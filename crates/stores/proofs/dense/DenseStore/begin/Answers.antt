@@ -1,35 +1,46 @@
 -- The bytes that the shape takes are there exactly if its bits are, and empty bytes are a matrix of zeros.
-use Rattle.std.proofs.Common.{◌*◌, length, sym, refl, ap, ◌∙◌, arith}
+use Rattle.std.proofs.Common.{◌≡◌, ◌*◌, length, take, drop, sym, refl, ap, ◌∙◌, arith, length-append, length-take, length-drop}
 use Rattle.matrix.specs.Matrix.{blank}
 use Rattle.matrix.specs.Terms.{left_by}
+use Rattle.stores.specs.Packed.{bytes_for}
 use Rattle.stores.specs.Dense.{packed, dense_terms}
 use Rattle.stores.proofs.Widths.{bytes_hold}
-use Rattle.stores.proofs.Begins.{begin_refused, begin_accepted, packed_blank, packed_count, cleared_to}
+use Rattle.stores.proofs.Begins.{begin_refused, begin_accepted, packed_blank, packed_count, cleared}
 use Rattle.stores.proofs.dense.DenseStore.begin.Goals as goal
 
-pub returns-then-wanted-self : goal.returns-then-wanted-self
-returns-then-wanted-self c =
+pub returns-then-wanted-self-clause-answer : goal.returns-then-wanted-self-clause-answer
+returns-then-wanted-self-clause-answer c =
     let d = c.args.self.now in
-    let m = packed d.width.bits d.rows d.columns d.plane.bytes.now in
-    let o = begin_refused d.width.bits (length d.plane.bytes.now) c.args.rows c.args.columns d.width.whole (omega (arith, c.bytes_of-wanted.ensures)) in
-    record { answer = sym o; after = sym (ap (λ x. left_by x (blank c.args.rows c.args.columns) m) o); terms = refl; backing = refl }
+    sym (begin_refused d.width.bits (length d.bytes.now) c.args.rows c.args.columns d.width.whole (omega (arith, c.bytes_of-wanted.ensures)))
+
+pub returns-then-wanted-self-clause-after : goal.returns-then-wanted-self-clause-after
+returns-then-wanted-self-clause-after c =
+    let d = c.args.self.now in
+    sym (ap (λ x. left_by x (blank c.args.rows c.args.columns) (packed d.width.bits d.shape.rows d.shape.columns d.bytes.now))
+    (begin_refused d.width.bits (length d.bytes.now) c.args.rows c.args.columns d.width.whole (omega (arith, c.bytes_of-wanted.ensures))))
 
 pub invariant_of-self : goal.invariant_of-self
 invariant_of-self c =
     let d = c.args.self.now in
+    let n = c.bytes_of-wanted.result in
+    let long : length (take n d.bytes.now) ≡ n = omega (arith, length-take n d.bytes.now, c.if-wanted-self.false) in
+    let empty = cleared c.fill.new.self (drop n d.bytes.now) n (bytes_for d.width.bits (c.args.rows * c.args.columns)) (c.fill.ensures.len ∙ long) c.bytes_of-wanted.ensures (λ i k l. c.fill.ensures.clones i k (omega (arith, long)) refl) in
     record {
-      fits = bytes_hold d.width.bits (c.args.rows * c.args.columns) _ d.width.whole (omega (arith, c.bytes_of-wanted.ensures, c.clear.ensures.long));
-      counted = packed_count d.width.bits c.args.rows c.args.columns _ d.width.whole (cleared_to _ _ _ c.bytes_of-wanted.ensures c.clear.ensures.empty);
+      fits = bytes_hold d.width.bits (c.args.rows * c.args.columns) _ d.width.whole (omega (arith, c.bytes_of-wanted.ensures, c.if-wanted-self.false, length-append c.fill.new.self (drop n d.bytes.now), c.fill.ensures.len, long, length-drop n d.bytes.now));
+      counted = packed_count d.width.bits c.args.rows c.args.columns _ d.width.whole empty;
     }
 
-pub returns : goal.returns
-returns c =
+pub returns-clause-answer : goal.returns-clause-answer
+returns-clause-answer c =
     let d = c.args.self.now in
-    let m = packed d.width.bits d.rows d.columns d.plane.bytes.now in
-    let o = begin_accepted d.width.bits (length d.plane.bytes.now) c.args.rows c.args.columns d.width.whole (omega (arith, c.bytes_of-wanted.ensures)) in
-    record {
-      answer = sym o;
-      after = packed_blank d.width.bits c.args.rows c.args.columns _ d.width.whole (cleared_to _ _ _ c.bytes_of-wanted.ensures c.clear.ensures.empty) ∙ sym (ap (λ x. left_by x (blank c.args.rows c.args.columns) m) o);
-      terms = ap (dense_terms d.width.bits) c.clear.ensures.long;
-      backing = refl;
-    }
+    sym (begin_accepted d.width.bits (length d.bytes.now) c.args.rows c.args.columns d.width.whole (omega (arith, c.bytes_of-wanted.ensures)))
+
+pub returns-clause-after : goal.returns-clause-after
+returns-clause-after c =
+    let d = c.args.self.now in
+    let n = c.bytes_of-wanted.result in
+    let long : length (take n d.bytes.now) ≡ n = omega (arith, length-take n d.bytes.now, c.if-wanted-self.false) in
+    let empty = cleared c.fill.new.self (drop n d.bytes.now) n (bytes_for d.width.bits (c.args.rows * c.args.columns)) (c.fill.ensures.len ∙ long) c.bytes_of-wanted.ensures (λ i k l. c.fill.ensures.clones i k (omega (arith, long)) refl) in
+    packed_blank d.width.bits c.args.rows c.args.columns _ d.width.whole empty
+    ∙ sym (ap (λ x. left_by x (blank c.args.rows c.args.columns) (packed d.width.bits d.shape.rows d.shape.columns d.bytes.now))
+    (begin_accepted d.width.bits (length d.bytes.now) c.args.rows c.args.columns d.width.whole (omega (arith, c.bytes_of-wanted.ensures))))
