@@ -3,3 +3,4 @@ pub mod Primes
 pub mod RowLaws
 pub mod Rings
 pub mod Elements
+mod Lookups
