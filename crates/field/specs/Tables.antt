@@ -1,9 +1,10 @@
--- Operations on the codes below q that are given by tables, with 0 for what is no code.
-use Rattle.std.specs.Prelude.{ℕ, List, [], slice_index, slice_index_or}
-use Rattle.field.specs.Guarded.{guarded, guarded₂}
+-- The tables of operations on the codes below q.
+use Rattle.std.specs.Prelude.{ℕ, List, map}
+use Rattle.std.specs.List.{range_with_len}
 
-unfoldable pub unary_by : ℕ → List ℕ → ℕ → ℕ
-unary_by q table = guarded q (λ a. slice_index table a)
+abbrev pub table : ℕ → (ℕ → ℕ) → List ℕ
+table q f = map f (range_with_len 0 q)
 
-unfoldable pub binary_by : ℕ → List (List ℕ) → ℕ → ℕ → ℕ
-binary_by q table = guarded₂ q (λ a b. slice_index (slice_index_or table a []) b)
+-- row by row
+abbrev pub table₂ : ℕ → (ℕ → ℕ → ℕ) → List (List ℕ)
+table₂ q f = map (λ a. table q (f a)) (range_with_len 0 q)

@@ -1,14 +1,11 @@
--- A small arithmetic is a field, by a test of all its codes; and tables that hold what a definition says.
-use Rattle.std.specs.Prelude.{◌≡◌, ℕ, zero, suc, ◌<◌, Bool, true, ◌&&◌, ◌||◌, List, [], ◌∷◌, get_or, ◌==◌, nat_eq, nat_le, nat_lt, slice_index, slice_index_or}
-use Rattle.std.proofs.Math.Path.{sym}
+-- A small arithmetic is a field, by a test of all its codes.
+use Rattle.std.specs.Prelude.{◌≡◌, ℕ, zero, suc, ◌<◌, Bool, true, ◌&&◌, ◌||◌, List, [], ◌∷◌, ◌==◌, nat_eq, nat_le, nat_lt}
 use Rattle.std.proofs.Common.{ap, ◌∙◌, arith}
 use Rattle.std.proofs.Math.Logic.{⊎_elim}
-use Rattle.std.proofs.lemmas.Bool.{and_parts, or_cases, ltb-true, leb-true, eqb-true, cases_eq, cases_lt}
+use Rattle.std.proofs.lemmas.Bool.{and_parts, or_cases, ltb-true, leb-true, eqb-true, cases_eq}
 use Rattle.field.specs.Arithmetic.{Arithmetic}
 use Rattle.field.specs.Counting.{all}
-use Rattle.field.specs.Guarded.{guarded, guarded₂}
-use Rattle.field.specs.Tables.{unary_by, binary_by}
-use Rattle.field.specs.Guarding.{CodeLaws, inside, outside, inside₂, outside_left, outside_right}
+use Rattle.field.specs.Guarding.{CodeLaws}
 
 -- every pair, and every triple, of numbers below q passes the test
 abbrev pub all₂ : ℕ → (ℕ → ℕ → Bool) → Bool
@@ -126,21 +123,3 @@ tested F passed =
           (or_cases _ _ (each q (λ a. (a == 0) || F.product a (F.inverse a) == 1) t-product-inverse.0 a h));
       inverse_zero = eqb-true _ _ t-inverse-zero.0;
     }
-
--- a table that was tested against a definition says the same, also of what is no code
-module _ (q : ℕ) where
-  pub unary_is : (table : List ℕ) (f : ℕ → ℕ) → equal q (λ a. slice_index table a) f ≡ true → (a : ℕ) → unary_by q table a ≡ guarded q f a
-  unfolding unary_by
-  unary_is table f e a =
-      let g : ℕ → ℕ = λ a. get_or table a 0 in
-      ⊎_elim (λ h. inside q g a h ∙ equal_each q g f e a h ∙ sym (inside q f a h)) (λ o. outside q g a o ∙ sym (outside q f a o)) (cases_lt a q)
-
-  pub binary_is : (table : List (List ℕ)) (f : ℕ → ℕ → ℕ) → equal₂ q (λ a b. slice_index (slice_index_or table a []) b) f ≡ true → (a b : ℕ) → binary_by q table a b ≡ guarded₂ q f a b
-  unfolding binary_by
-  binary_is table f e a b =
-      let g : ℕ → ℕ → ℕ = λ a b. get_or (slice_index_or table a []) b 0 in
-      ⊎_elim
-      (λ h. ⊎_elim (λ k. inside₂ q g a b h k ∙ equal_each₂ q g f e a b h k ∙ sym (inside₂ q f a b h k))
-      (λ o. outside_right q g a b o ∙ sym (outside_right q f a b o)) (cases_lt b q))
-      (λ o. outside_left q g a b o ∙ sym (outside_left q f a b o))
-      (cases_lt a q)

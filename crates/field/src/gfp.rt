@@ -2,14 +2,14 @@
 ghost use Rattle.std.specs.Prelude.{◌≡◌, ◌≤◌, Ok, MatchResult};
 ghost use Rattle.refusal.specs.Outcomes.{outcome};
 ghost use Rattle.field.specs.Divisors.{Bezout};
-ghost use Rattle.field.specs.Primes.{Indivisible, OddPrime, Decides, modulus};
+ghost use Rattle.field.specs.Primes.{Indivisible, OddPrime, odd_prime_of, modulus};
 ghost use Rattle.field.specs.Residues.{prime_field, HalfModulo251};
 ghost use Rattle.field.specs.ResidueLaws.{prime_laws};
 
 use crate::Field;
 use refusal::Refusal;
 
-#[derive(Clone, Copy)]
+#[derive(Clone, Copy, Debug)]
 pub struct GfP {
     p: u16,
     ghost least: { 3 ≤ p },
@@ -33,17 +33,9 @@ impl GfP {
 
 // Whether p is an odd prime from 3 to 251, by trial division.
 fn is_odd_prime(p: u16) -> bool
-    ensures { Decides (OddPrime p) result }
+    ensures { result ≡ odd_prime_of p }
 {
-    if p < 3 || p > 251 {
-        return false;
-    }
-    for d in 2..p {
-        if p % d == 0 {
-            return false;
-        }
-    }
-    true
+    (3..=251).contains(&p) && (2..p).all(|d| p % d != 0)
 }
 
 // The greatest common divisor of a and b, with x and y such that a x + b y comes to it.

@@ -9,6 +9,7 @@ use crate::Field;
 pub fn add_multiple<F: Field>(field: &F, row: &mut [u16], factor: u16, other: &[u16])
     ensures { row.new ≡ plus_multiple (F.arithmetic field.now) factor row.old other.now }
 {
+    // by index: of what is written through `iter_mut().zip(other)` the checker knows nothing afterwards
     for i in 0..row.len().min(other.len()) {
         row[i] = field.sum(row[i], field.product(factor, other[i]));
     }

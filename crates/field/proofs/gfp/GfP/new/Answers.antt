@@ -1,10 +1,11 @@
--- What the test for an odd prime tells is the modulus that is asked for.
-use Rattle.std.proofs.Common.{sym}
-use Rattle.field.proofs.Primes.{modulus_accepted, modulus_refused}
+-- What passes the test is an odd prime, and what fails is none.
+use Rattle.std.proofs.Common.{◌∙◌}
+use Rattle.std.proofs.lemmas.Bool.{both_ways}
+use Rattle.field.proofs.Primes.{odd_prime_true, odd_prime_from}
 use Rattle.field.proofs.gfp.GfP.new.Goals as goal
 
-pub returns-then-is_odd_prime : goal.returns-then-is_odd_prime
-returns-then-is_odd_prime c = let o = c.if-is_odd_prime.ensures in record { answer = sym (modulus_accepted c.args.p o); prime = o }
+pub invariant_of-result : goal.invariant_of-result
+invariant_of-result c = let o = odd_prime_true c.args.p cc in record { least = o.least; most = o.most; prime = o.prime }
 
-pub returns-else-is_odd_prime : goal.returns-else-is_odd_prime
-returns-else-is_odd_prime c = let o = c.if-is_odd_prime.ensures in record { answer = sym (modulus_refused c.args.p o); prime = o }
+pub returns-else-is_odd_prime-clause-prime : goal.returns-else-is_odd_prime-clause-prime
+returns-else-is_odd_prime-clause-prime c o = both_ways _ c.if-is_odd_prime.false (c.is_odd_prime.ensures ∙ odd_prime_from c.args.p o)
