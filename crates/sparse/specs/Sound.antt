@@ -20,7 +20,3 @@ pub record Sound (rows columns used free fresh : ℕ) (heads : List ℕ) (cells 
   pub spared : spare cells fresh (fresh - used) free ≡ true
   -- `used` is the number of nonzero entries
   pub counted : used ≡ count (held rows columns cells)
-
--- that a fact is not refuted, which no two proofs tell apart; for facts that can be decided, the fact itself
-abbrev pub Known : Type 0 → Type 0
-Known P = (P → ⊥) → ⊥

@@ -3,7 +3,7 @@ ghost use Rattle.std.specs.Prelude.{◌≡◌, length};
 ghost use Rattle.matrix.specs.Matrix.{blank};
 ghost use Rattle.matrix.specs.Terms.{itself};
 ghost use Rattle.sparse.specs.Cells.{held, held_outside, sparse_terms};
-ghost use Rattle.sparse.specs.Sound.{Sound, Known};
+ghost use Rattle.sparse.specs.Sound.{Sound};
 
 use crate::cell::Cell;
 use crate::chains::Chains;
@@ -21,7 +21,7 @@ pub struct Sparse<'a> {
     pub(crate) free: u16,
     pub(crate) fresh: u16,
     pub(crate) chains: Chains<'a>,
-    ghost sound: { Known (Sound rows columns used free fresh chains.heads.now chains.cells.now) },
+    ghost sound: { Sound rows columns used free fresh chains.heads.now chains.cells.now },
 }
 
 impl<'a> Sparse<'a> {

@@ -2,7 +2,6 @@
 use Rattle.std.proofs.Common.{length, sym, refl, ap, ◌∙◌, arith}
 use Rattle.matrix.specs.Matrix.{put_at, put_into}
 use Rattle.sparse.specs.Cells.{held, sparse_terms}
-use Rattle.sparse.proofs.Sounds.{sound}
 use Rattle.sparse.proofs.Steps.{code_none, code_some, outcome_some, outcome_zero, outcome_room, outcome_full, put_nothing, kept_all, after_accepted, after_refused}
 use Rattle.sparse.proofs.sparse.Sparse.set.Goals as goal
 
@@ -11,12 +10,12 @@ code_if-old-requires c = record { link = λ d. omega (arith, (c.requires.spot.ah
 
 pub remove-requires : goal.remove-requires
 remove-requires c =
-    let s = sound c.args.self.now.sound in
+    let s = c.args.self.now.sound in
     record { place = c.requires.place; spot = c.requires.spot; there = code_some s c.requires.place c.requires.spot (λ z. c.if-old-ne0.true (c.code_if-old.ensures ∙ z)) }
 
 pub replace-requires : goal.replace-requires
 replace-requires c =
-    let s = sound c.args.self.now.sound in
+    let s = c.args.self.now.sound in
     record { place = c.requires.place; spot = c.requires.spot; there = code_some s c.requires.place c.requires.spot (λ z. c.if-old-ne0.true (c.code_if-old.ensures ∙ z)); code = c.if-code-eq0.false }
 
 pub returns-then-code-eq0 : goal.returns-then-code-eq0
@@ -24,7 +23,7 @@ returns-then-code-eq0 c =
     let d = c.args.self.now in
     let m = held d.rows d.columns d.chains.cells.now in
     let t = sparse_terms (length d.chains.cells.now) (length d.chains.heads.now) in
-    let s = sound c.args.self.now.sound in
+    let s = c.args.self.now.sound in
     let o = outcome_some s c.requires.place c.requires.spot c.args.code (omega arith) (λ z. c.if-old-ne0.true (c.code_if-old.ensures ∙ z)) in
     let e = c.remove.ensures in
     record {
@@ -39,7 +38,7 @@ returns-else-code-eq0 c =
     let d = c.args.self.now in
     let m = held d.rows d.columns d.chains.cells.now in
     let t = sparse_terms (length d.chains.cells.now) (length d.chains.heads.now) in
-    let s = sound c.args.self.now.sound in
+    let s = c.args.self.now.sound in
     let o = outcome_some s c.requires.place c.requires.spot c.args.code (omega arith) (λ z. c.if-old-ne0.true (c.code_if-old.ensures ∙ z)) in
     let e = c.replace.ensures in
     record {
@@ -53,7 +52,7 @@ returns-then-code-eq0-2 c =
     let d = c.args.self.now in
     let m = held d.rows d.columns d.chains.cells.now in
     let t = sparse_terms (length d.chains.cells.now) (length d.chains.heads.now) in
-    let s = sound c.args.self.now.sound in
+    let s = c.args.self.now.sound in
     let o = outcome_zero s c.requires.place c.requires.spot c.args.code (omega arith) c.if-code-eq0-2.true in
     record {
       answer = sym o;
@@ -66,7 +65,7 @@ returns-then-self-limit c =
     let d = c.args.self.now in
     let m = held d.rows d.columns d.chains.cells.now in
     let t = sparse_terms (length d.chains.cells.now) (length d.chains.heads.now) in
-    let s = sound c.args.self.now.sound in
+    let s = c.args.self.now.sound in
     let o = outcome_full s c.requires.place c.requires.spot c.args.code (omega arith) (sym c.code_if-old.ensures ∙ c.if-old-ne0.false) c.if-code-eq0-2.false (omega (arith, c.limit.ensures, c.if-self-limit.true)) in
     record {
       answer = sym o;
@@ -76,7 +75,7 @@ returns-then-self-limit c =
 
 pub insert-requires : goal.insert-requires
 insert-requires c =
-    let s = sound c.args.self.now.sound in
+    let s = c.args.self.now.sound in
     record {
       place = c.requires.place;
       spot = c.requires.spot;
@@ -90,7 +89,7 @@ returns c =
     let d = c.args.self.now in
     let m = held d.rows d.columns d.chains.cells.now in
     let t = sparse_terms (length d.chains.cells.now) (length d.chains.heads.now) in
-    let s = sound c.args.self.now.sound in
+    let s = c.args.self.now.sound in
     let o = outcome_room s c.requires.place c.requires.spot c.args.code (omega arith) (omega (arith, c.limit.ensures, c.if-self-limit.false)) in
     let e = c.insert.ensures in
     record {

@@ -2,7 +2,7 @@
 use Rattle.std.proofs.Common.{◌+◌, Some, refl, ap, ◌∙◌, inl, inr, arith}
 use Rattle.sparse.specs.declared.cell.Cell.{Cell}
 use Rattle.sparse.proofs.Rows.{row_of_some}
-use Rattle.sparse.proofs.Sounds.{sound, walkable}
+use Rattle.sparse.proofs.Sounds.{walkable}
 use Rattle.sparse.proofs.Readings.{last_none, last_end, last_some}
 use Rattle.sparse.proofs.sparse.SparseGrid.last_nonzero.Goals as goal
 use Rattle.sparse.proofs.sparse.SparseGrid.last_nonzero.Goals.{then-column-eq0-via-then-column-eq0, then-column-eq0-via-else-column-eq0+then-column-self}
@@ -17,7 +17,7 @@ returns-then-column-eq0 c =
 
 pub seek-spot-requires : goal.seek-spot-requires
 seek-spot-requires c =
-    let s = sound c.args.self.now.sound in
+    let s = c.args.self.now.sound in
     record { chain = walkable s c.args.column (omega arith) (omega arith); stands = λ d. absurd (d refl); below = omega (arith, c.min.ensures) }
 
 pub cell_at-requires : goal.cell_at-requires
@@ -31,6 +31,6 @@ returns-then-spot-eq0 c =
 pub returns-else-spot-eq0 : goal.returns-else-spot-eq0
 returns-else-spot-eq0 c =
     let d = c.args.self.now in
-    let s = sound d.sound in
+    let s = d.sound in
     ap (λ (x : Cell). Some x.row) c.cell_at.ensures
     ∙ last_some d.rows d.columns _ c.args.column c.args.last _ _ _ s.chained.one_each s.filled s.rows_to (omega arith) (omega arith) c.seek-spot.ensures (ap (λ n. n + 1) c.min.ensures) c.if-spot-eq0.false

@@ -5,7 +5,7 @@ use Rattle.refusal.specs.declared.Refusal.TheVariants.{OutsideShape}
 use Rattle.sparse.specs.Cells.{cell, held, sparse_terms}
 use Rattle.sparse.specs.Puts.{Place}
 use Rattle.sparse.proofs.Rows.{row_of_some}
-use Rattle.sparse.proofs.Sounds.{sound, walkable}
+use Rattle.sparse.proofs.Sounds.{walkable}
 use Rattle.sparse.proofs.Readings.{held_past}
 use Rattle.sparse.proofs.Steps.{entry_is, outcome_outside, after_refused}
 use Rattle.sparse.proofs.Merges.{merge_nothing, merge_start, merge_end, merge_refused, merge_put, row_past, row_within, row_is, next_link, left_less}
@@ -27,7 +27,7 @@ returns-then-from-eq0 g c =
 
 pub seek-link-requires : goal.seek-link-requires
 seek-link-requires g c =
-    let s = sound c.args.self.now.sound in
+    let s = c.args.self.now.sound in
     record { chain = walkable s c.args.from (omega (arith, c.if-from-eq0.false)) c.if-from-self.false; stands = λ d. absurd (d refl); below = omega arith }
 
 pub returns-then-link-eq0 : goal.returns-then-link-eq0
@@ -46,7 +46,7 @@ returns-else-link-eq0 g c =
     let f = g.F.Field.arithmetic c.args.field.now in
     let t = sparse_terms (length d.chains.cells.now) (length d.chains.heads.now) in
     let m = held d.rows d.columns d.chains.cells.now in
-    let s = sound d.sound in
+    let s = d.sound in
     let w = merge_start f c.args.factor c.args.from c.args.to d.rows d.columns d.chains.heads.now d.chains.cells.now _ _ c.seek-link.ensures in
     let x = cell d.chains.cells.now (c.seek-link.result.at - 1) in
     let y = m.at x.row c.args.to in
@@ -78,7 +78,7 @@ seek-spot-requires g c =
     let t = sparse_terms (length d.chains.cells.now) (length d.chains.heads.now) in
     let m = held d.rows d.columns d.chains.cells.now in
     let n = c.loop-link.self in
-    let s = sound n.sound in
+    let s = n.sound in
     let w = c.loop-link.invariant.1 in
     let some = c.loop-link-test.true in
     let x = c.cell_at-cell.result in
@@ -98,7 +98,7 @@ code_if-old-requires g c =
     let t = sparse_terms (length d.chains.cells.now) (length d.chains.heads.now) in
     let m = held d.rows d.columns d.chains.cells.now in
     let n = c.loop-link.self in
-    let s = sound n.sound in
+    let s = n.sound in
     let w = c.loop-link.invariant.1 in
     let some = c.loop-link-test.true in
     let x = c.cell_at-cell.result in
@@ -114,7 +114,7 @@ set-requires g c =
     let t = sparse_terms (length d.chains.cells.now) (length d.chains.heads.now) in
     let m = held d.rows d.columns d.chains.cells.now in
     let n = c.loop-link.self in
-    let s = sound n.sound in
+    let s = n.sound in
     let w = c.loop-link.invariant.1 in
     let some = c.loop-link-test.true in
     let x = c.cell_at-cell.result in
@@ -136,7 +136,7 @@ returns-in_err-set g c =
     let t = sparse_terms (length d.chains.cells.now) (length d.chains.heads.now) in
     let m = held d.rows d.columns d.chains.cells.now in
     let n = c.loop-link.self in
-    let s = sound n.sound in
+    let s = n.sound in
     let w = c.loop-link.invariant.1 in
     let some = c.loop-link-test.true in
     let x = c.cell_at-cell.result in
@@ -168,7 +168,7 @@ loop-link-smaller g c =
     let t = sparse_terms (length d.chains.cells.now) (length d.chains.heads.now) in
     let m = held d.rows d.columns d.chains.cells.now in
     let n = c.loop-link.self in
-    let s = sound n.sound in
+    let s = n.sound in
     let w = c.loop-link.invariant.1 in
     let some = c.loop-link-test.true in
     let x = c.cell_at-cell.result in
@@ -185,7 +185,7 @@ loop-link-preserved g c =
     let t = sparse_terms (length d.chains.cells.now) (length d.chains.heads.now) in
     let m = held d.rows d.columns d.chains.cells.now in
     let n = c.loop-link.self in
-    let s = sound n.sound in
+    let s = n.sound in
     let w = c.loop-link.invariant.1 in
     let some = c.loop-link-test.true in
     let x = c.cell_at-cell.result in

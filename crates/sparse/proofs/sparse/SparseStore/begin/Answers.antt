@@ -3,7 +3,6 @@ use Rattle.std.proofs.Common.{length, sym, refl, ap, ◌∙◌, inl, inr, arith}
 use Rattle.matrix.specs.Matrix.{blank}
 use Rattle.matrix.specs.Terms.{left_by}
 use Rattle.sparse.specs.Cells.{held, sparse_terms}
-use Rattle.sparse.proofs.Sounds.{sound}
 use Rattle.sparse.proofs.Starts.{held_blank, begun_sound, begin_taken, begin_refused}
 use Rattle.sparse.proofs.sparse.SparseStore.begin.Goals as goal
 use Rattle.sparse.proofs.sparse.SparseStore.begin.Goals.{then-rows-gt65535-via-then-rows-gt65535, then-rows-gt65535-via-else-rows-gt65535+then-columns-width}
@@ -25,12 +24,12 @@ returns-then-rows-gt65535 c =
 
 pub clear-requires : goal.clear-requires
 clear-requires c =
-    let s = sound c.args.self.now.sound in
+    let s = c.args.self.now.sound in
     record { cells = omega (arith, s.lent); heads = omega (arith, c.width.ensures, c.if-columns-width.false); past = s.unused }
 
 pub invariant_of-self : goal.invariant_of-self
 invariant_of-self c =
-    record { sound = λ n. n (begun_sound c.args.rows c.args.columns _ _ c.if-rows-gt65535.false (omega (arith, c.width.ensures, c.if-columns-width.false, c.clear.ensures.wide)) c.clear.ensures.cells c.clear.ensures.heads) }
+    record { sound = (begun_sound c.args.rows c.args.columns _ _ c.if-rows-gt65535.false (omega (arith, c.width.ensures, c.if-columns-width.false, c.clear.ensures.wide)) c.clear.ensures.cells c.clear.ensures.heads) }
 
 pub returns : goal.returns
 returns c =

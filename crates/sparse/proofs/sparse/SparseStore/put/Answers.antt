@@ -2,7 +2,7 @@
 use Rattle.std.proofs.Common.{length, sym, refl, arith}
 use Rattle.sparse.specs.Cells.{sparse_terms}
 use Rattle.sparse.specs.Puts.{Place}
-use Rattle.sparse.proofs.Sounds.{sound, walkable}
+use Rattle.sparse.proofs.Sounds.{walkable}
 use Rattle.sparse.proofs.Steps.{outcome_outside, after_refused}
 use Rattle.sparse.proofs.sparse.SparseStore.put.Goals as goal
 use Rattle.sparse.proofs.sparse.SparseStore.put.Goals.{then-row-eq0-via-then-row-eq0, then-row-eq0-via-else-row-eq0+then-row-self, then-row-eq0-via-else-row-eq0+else-row-self+then-column-eq0, then-row-eq0-via-else-row-eq0+else-row-self+else-column-eq0+then-column-self}
@@ -22,7 +22,7 @@ returns-then-row-eq0 c =
 
 pub seek-spot-requires : goal.seek-spot-requires
 seek-spot-requires c =
-    let s = sound c.args.self.now.sound in
+    let s = c.args.self.now.sound in
     record { chain = walkable s c.args.column (omega arith) (omega arith); stands = λ d. absurd (d refl); below = omega arith }
 
 pub set-requires : goal.set-requires
