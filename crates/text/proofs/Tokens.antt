@@ -49,7 +49,7 @@ mark_by_is LineEnd b a rest e = cc
 mark_by_is (Digit d) b a rest e = number_no_mark (number_first (b ∷ rest)) b a e
 mark_by_is Other b a rest e = cc
 
-byte_mark : (s : List ℕ) (a : ℕ) → Some (mark a) ≡ part_first s → byte a s ≡ Some (drop 1 s)
+pub byte_mark : (s : List ℕ) (a : ℕ) → Some (mark a) ≡ part_first s → byte a s ≡ Some (drop 1 s)
 byte_mark [] a e = cc
 byte_mark (b ∷ rest) a e = cond-true _ _ _ (eq-eqb b a (mark_by_is (symbol_of b) b a rest (sym e)))
 

@@ -1,7 +1,7 @@
 -- A survey from its lines: what reading comes to once they are read.
-use Rattle.std.proofs.Common.{◌≡◌, ℕ, ◌+◌, ◌-◌, ◌<◌, ◌≤◌, Bool, false, ◌&&◌, leb, List, ◌++◌, length, take, drop, IfOk, Ok, Err, Result, sym, ap, ◌∙◌, inl, inr, arith, length-append, length-drop}
+use Rattle.std.proofs.Common.{◌≡◌, ℕ, ◌-◌, ◌<◌, ◌≤◌, Bool, false, ◌&&◌, leb, List, length, take, drop, Some, None, Ok, Err, Option, Result, sym, refl, ap, ◌∙◌, inl, inr, arith, length-append}
 use mathlib.Core.Path.{fun_ext}
-use lib.Seq.{take-append-le, take-length}
+use Rattle.std.proofs.lemmas.List.{take_at, drop_at}
 use Rattle.std.proofs.lemmas.Bool.{cases_Bool, and_parts, cond-false}
 use Rattle.refusal.specs.declared.Refusal.{Refusal}
 use Rattle.refusal.specs.Outcomes.{Outcome, accepted, refused, and_then, outcome}
@@ -13,9 +13,10 @@ use Rattle.survey.specs.Tables.{at}
 use Rattle.survey.specs.Views.{drawn}
 use Rattle.survey.proofs.Fences.{length_distinct}
 use Rattle.text.specs.Reading.{Read, count_line_of, sensor_lines_of, fence_line_of, names, reading}
-use Rattle.text.specs.Lines.{behind, LinesRead, FenceRead, survey_behind}
+use Rattle.text.specs.Lines.{fitting, fitted, LinesRead}
 use Rattle.text.specs.Text.{text}
 use Rattle.text.proofs.Accepting.{accepted_is_text}
+use Rattle.text.proofs.Lists.{fitted_accepted, fitted_refused, none_fits, some_fits}
 
 -- a survey, and the bytes behind its text
 abbrev pub with_rest : List ℕ → Survey → Outcome (Read Survey)
@@ -40,42 +41,59 @@ no_fence p list l = elim (cases_Bool (leb 3 (length list) && distinct p.count no
 pub judged_long : (p : Neighbours) (list : List ℕ) → 64 < length list → judged (drawn p list) ≡ refused 5
 judged_long p list l = cond-false _ _ _ (no_fence p list l)
 
-module _ (text : List ℕ) (old : Neighbours) (a : ℕ) (first : count_line_of text ≡ accepted (behind text old.count a)) where
-  pub lines_refused : (k : ℕ) → sensor_lines_of old.count old.count 1 (drop a text) ≡ refused k → reading text ≡ refused k
+module _ (bytes behind : List ℕ) (old : Neighbours) (first : count_line_of bytes ≡ accepted (record { got = old.count; rest = behind })) where
+  pub lines_refused : (k : ℕ) → sensor_lines_of old.count old.count 1 behind ≡ refused k → reading bytes ≡ refused k
   lines_refused k e = ap (λ o. and_then o of_lines) first ∙ ap (λ o. and_then o (of_fence old.count)) e
 
-  module _ (new : Neighbours) (b : ℕ) (lines : LinesRead text a old (Ok b) new) where
-    after_lines : reading text ≡ of_fence old.count (behind text lines.0 b)
-    after_lines = ap (λ o. and_then o of_lines) first ∙ ap (λ o. and_then o (of_fence old.count)) lines.1
-
+  module _ (last : List ℕ) (new : Neighbours) (lines : LinesRead behind old (Ok tt) last new) where
     survey_is : (list : List ℕ) → ◌≡◌ {A = Survey} (record { count = old.count; linked = names lines.0; fence = list }) (drawn new list)
     survey_is list =
         ap (λ (f : ℕ → ℕ → Bool). record { count = old.count; linked = f; fence = list }) (fun_ext (λ x. fun_ext (λ y. sym (lines.3 x y))))
         ∙ ap (λ n. record { count = n; linked = at new.rows; fence = list }) (sym lines.2)
 
-    pub fence_refused : (k : ℕ) → fence_line_of (drop b text) ≡ refused k → reading text ≡ refused k
-    fence_refused k e =
-        after_lines ∙ ap (λ o. and_then o (λ fence. and_then (judged (record { count = old.count; linked = names lines.0; fence = fence.got })) (with_rest fence.rest))) e
+    -- all lines but the last are read
+    after_lines : reading bytes ≡ and_then (fence_line_of last) (λ fence. and_then (judged (drawn new fence.got)) (with_rest fence.rest))
+    after_lines =
+        ap (λ o. and_then o of_lines) first ∙ ap (λ o. and_then o (of_fence old.count)) lines.1
+        ∙ ap (and_then (fence_line_of last)) (fun_ext (λ fence. ap (λ s. and_then (judged s) (with_rest fence.rest)) (survey_is fence.got)))
 
-    -- all lines are read, and the survey is judged
-    pub reading_is : (p : ℕ × ℕ) (out : List ℕ) (fence : FenceRead text b (Ok p) out) → reading text ≡ and_then (judged (drawn new fence.0)) (with_rest (drop p.1 text))
-    reading_is p out fence =
-        after_lines
-        ∙ ap (λ o. and_then o (λ fence. and_then (judged (record { count = old.count; linked = names lines.0; fence = fence.got })) (with_rest fence.rest))) fence.1
-        ∙ ap (λ s. and_then (judged s) (with_rest (drop p.1 text))) (survey_is fence.0)
+    pub fence_refused : (k : ℕ) → refused k ≡ fitted (fence_line_of last) → reading bytes ≡ refused k
+    fence_refused k e = after_lines ∙ ap (λ o. and_then o (λ fence. and_then (judged (drawn new fence.got)) (with_rest fence.rest))) (fitted_refused (fence_line_of last) k e)
 
--- the front of the table is the fence, as a slice from its start takes it
-pub fence_front : (text : List ℕ) (b : ℕ) (p : ℕ × ℕ) (out : List ℕ) (fence : FenceRead text b (Ok p) out) → p.0 ≤ length out → take (p.0 - 0) out ≡ fence.0
-fence_front text b p out fence l = let e : p.0 - 0 ≡ p.0 = omega arith in ap (λ m. take m out) e ∙ fence.4 l
+    -- the last line has the right form, and is kept if it fits
+    module _ (f : Option (List ℕ)) (rest : List ℕ) (fence : accepted (record { got = f; rest = rest }) ≡ fitted (fence_line_of last)) where
+      after_fence : (list : List ℕ) × (reading bytes ≡ and_then (judged (drawn new list)) (with_rest rest)) × (f ≡ fitting list)
+      after_fence =
+          let p = fitted_accepted (fence_line_of last) f rest fence in
+          (p.0, after_lines ∙ ap (λ o. and_then o (λ fence. and_then (judged (drawn new fence.got)) (with_rest fence.rest))) p.1, p.2)
 
--- what stands before the place is the text
-take_text : (bytes text : List ℕ) (k : ℕ) → k ≤ length bytes → bytes ≡ text ++ drop k bytes → take k bytes ≡ text
-take_text bytes text k l e =
-    let all : length bytes ≡ length text + (length bytes - k) = ap length e ∙ length-append text (drop k bytes) ∙ ap (λ n. length text + n) (length-drop k bytes) in
-    let n : k ≡ length text = omega arith in
-    ap (take k) e ∙ ap (λ m. take m (text ++ drop k bytes)) n ∙ take-append-le (length text) text (drop k bytes) (omega arith) ∙ take-length text
+      pub fence_long : f ≡ None → reading bytes ≡ refused 5
+      fence_long none =
+          after_fence.1 ∙ ap (λ o. and_then o (with_rest rest)) (judged_long new after_fence.0 (none_fits after_fence.0 (sym none ∙ after_fence.2)))
 
-pub front_is_text : (bytes : List ℕ) (r : Result (Plan × ℕ) Refusal) → outcome (survey_behind bytes) r ≡ reading bytes → IfOk r (λ p. p.1 ≤ length bytes)
-    → IfOk r (λ p. take p.1 bytes ≡ text (survey_of p.0))
-front_is_text bytes (Ok p) e l = take_text bytes (text (survey_of p.0)) p.1 l (accepted_is_text bytes (survey_behind bytes p) (sym e))
-front_is_text bytes (Err x) e l = tt
+      pub survey_read : (xs : List ℕ) (r : Result Plan Refusal) → f ≡ Some xs → outcome survey_of r ≡ judged (drawn new xs)
+          → outcome (λ s. record { got = survey_of s; rest = rest }) r ≡ reading bytes
+      survey_read xs r some e =
+          let same = some_fits xs after_fence.0 (sym some ∙ after_fence.2) in
+          go r ∙ ap (λ o. and_then o (with_rest rest)) e ∙ ap (λ (l : List ℕ). and_then (judged (drawn new l)) (with_rest rest)) same ∙ sym after_fence.1
+        where
+          go : (r : Result Plan Refusal) → outcome (λ s. record { got = survey_of s; rest = rest }) r ≡ and_then (outcome survey_of r) (with_rest rest)
+          go (Ok s) = refl
+          go (Err k) = refl
+
+-- what stands before the bytes that are left is the text, which ends where they begin
+pub record Ends (bytes : List ℕ) (s : Survey) (rest : List ℕ) : Type 0 where
+  pub within : length rest ≤ length bytes
+  pub front : take (length bytes - length rest) bytes ≡ text s
+  pub behind : drop (length bytes - length rest) bytes ≡ rest
+
+pub text_ends : (bytes : List ℕ) (s : Survey) (rest : List ℕ) → accepted (record { got = s; rest = rest }) ≡ reading bytes → Ends bytes s rest
+text_ends bytes s rest e =
+    let whole = accepted_is_text bytes (record { got = s; rest = rest }) (sym e) in
+    let all = ap length whole ∙ length-append (text s) rest in
+    let place : length (text s) ≡ length bytes - length rest = omega (arith, all) in
+    record {
+      within = omega (arith, all);
+      front = ap (take (length bytes - length rest)) whole ∙ take_at (text s) rest _ place;
+      behind = ap (drop (length bytes - length rest)) whole ∙ drop_at (text s) rest _ place;
+    }

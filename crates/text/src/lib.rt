@@ -3,8 +3,9 @@
 
 pub mod column;
 mod line;
-mod parts;
+mod numbers;
 pub mod read;
+mod reader;
 pub mod symbol;
 pub mod token;
 pub mod write;

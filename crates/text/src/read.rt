@@ -7,7 +7,7 @@ ghost use Rattle.text.specs.Reading.{reading};
 ghost use Rattle.text.specs.Text.{text as text_of};
 ghost use Rattle.text.specs.Theorems.{AcceptedIsText, AcceptedIsValid};
 
-use crate::line::{count_line, fence_line, sensor_lines};
+use crate::reader::Reader;
 use refusal::Refusal;
 use survey::plan::Survey;
 
@@ -19,21 +19,20 @@ pub fn read_survey(text: &[u8]) -> Result<(Survey, usize), Refusal>
     ensures accepted { AcceptedIsText }
     ensures valid { AcceptedIsValid }
 {
-    read(text)
+    let mut reader = Reader::new(text);
+    let survey = reader.survey()?;
+    let at = text.len() - reader.left();
+    Ok((survey, at))
 }
 
-// The same, without the theorems.
-fn read(text: &[u8]) -> Result<(Survey, usize), Refusal>
-    ensures answer { outcome (survey_behind text.now) result ≡ reading text.now }
-    ensures within { IfOk result (λ p. p.1 ≤ length text.now) }
-{
-    let (mut neighbours, at) = count_line(text)?;
-    let at = sensor_lines(text, at, &mut neighbours)?;
-    let mut fence = [0; 64];
-    let (count, at) = fence_line(text, at, &mut fence)?;
-    if count > 64 {
-        return Err(Refusal::BadFence);
+impl Reader<'_> {
+    // A whole survey.
+    fn survey(&mut self) -> Result<Survey, Refusal>
+        ensures { outcome (λ s. record { got = survey_of s; rest = self.new }) result ≡ reading self.old }
+    {
+        let mut neighbours = self.count_line()?;
+        self.sensor_lines(&mut neighbours)?;
+        let fence = self.fence_line()?.ok_or(Refusal::BadFence)?;
+        Survey::new(neighbours, fence.as_slice())
     }
-    let survey = Survey::new(neighbours, &fence[0..count])?;
-    Ok((survey, at))
 }
