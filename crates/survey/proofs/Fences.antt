@@ -3,6 +3,9 @@ use Rattle.std.proofs.Common.{◌≡◌, ℕ, suc, ◌+◌, ◌<◌, ◌≤◌, 
 use Rattle.std.specs.List.{AllByRecursion}
 use Rattle.std.proofs.lemmas.Bool.{and_parts, leb-true, not-true, eq-eqb, ne_eqb, or_left, cond-true, cond-false, cases_lt, lt-ltb, le-ltb}
 use Rattle.std.proofs.ByRecursion.{All-get_or}
+use mathlib.Core.Path.{fun_ext}
+use Rattle.std.proofs.lemmas.Bool.Decides.{nat_tests}
+use Rattle.survey.specs.Sets.{joining}
 use Rattle.survey.specs.Lists.{numbers, after}
 use Rattle.std.proofs.lemmas.List.{at_drop_more, at_drop_all}
 use Rattle.survey.specs.declared.edge.Edge.{Edge}
@@ -58,6 +61,10 @@ pub distinct_met : (n : ℕ) (met : Sensors) (xs : List ℕ) (i : ℕ) (b : Bool
     → distinct n met (drop i xs) ≡ (b && distinct n (meeting (get_or xs i 0) met) (drop (i + 1) xs))
 distinct_met n met xs i b l t =
     at_drop_more (distinct n met) xs i 0 l ∙ ap (λ a. a && distinct n (meeting (get_or xs i 0) met) (drop (i + 1) xs)) (sym t)
+
+-- a sensor that is new joins a set of sensors like any other set
+pub joining_sensor : (n x : ℕ) (met : Sensors) → (leb 1 x && leb x n && not (met x)) ≡ true → n ≤ 64 → joining x met ≡ meeting x met
+joining_sensor n x met new few = fun_ext (λ y. grind (arith, nat_tests))
 
 -- a loop round the fence: the step from the place i, and those after it
 pub steps_more : (xs : List ℕ) (i : ℕ) → i < length xs

@@ -1,5 +1,5 @@
 -- Tables of flags: one value everywhere, and one flag set.
-use Rattle.std.proofs.Common.{◌≡◌, ℕ, zero, suc, ◌<◌, Bool, true, false, ◌||◌, eqb, List, length, get_or, set, replicate, sym, refl, ap, ◌∙◌, inl, inr, get_or-set_other, get_or-set_same}
+use Rattle.std.proofs.Common.{◌≡◌, ℕ, zero, suc, ◌<◌, Bool, true, false, ◌&&◌, ◌||◌, eqb, List, [], length, get_or, set, replicate, sym, refl, ap, ap₂, ◌∙◌, inl, inr, get_or-set_other, get_or-set_same}
 use Rattle.std.proofs.lemmas.Bool.{cases_eq, eq-eqb, ne_eqb}
 use Rattle.survey.specs.Tables.{at}
 
@@ -23,4 +23,17 @@ pub getD_set_true : (met : List Bool) (x y : ℕ) → x < length met → get_or 
 getD_set_true met x y h = elim (cases_eq y x) [
   | inl e ↦ ap (λ k. get_or (set met x true) k false) e ∙ get_or-set_same met x true false h ∙ sym (ap (λ b. b || get_or met y false) (eq-eqb y x e))
   | inr d ↦ get_or-set_other met x y true false d ∙ sym (ap (λ b. b || get_or met y false) (ne_eqb y x d))
+]
+
+-- a table of rows after one more flag is set
+pub at_set_true : (rows : List (List Bool)) (x y a b : ℕ) → x < length rows → y < length (get_or rows x [])
+    → at (set rows x (set (get_or rows x []) y true)) a b ≡ ((eqb a x && eqb b y) || at rows a b)
+at_set_true rows x y a b l m = elim (cases_eq a x) [
+  | inl e ↦
+      ap (λ r. get_or r b false) (ap (λ i. get_or (set rows x (set (get_or rows x []) y true)) i []) e ∙ get_or-set_same rows x _ [] l)
+      ∙ getD_set_true (get_or rows x []) y b m
+      ∙ sym (ap₂ (λ t i. (t && eqb b y) || at rows i b) (eq-eqb a x e) e)
+  | inr d ↦
+      ap (λ r. get_or r b false) (get_or-set_other rows x a _ [] d)
+      ∙ sym (ap (λ t. (t && eqb b y) || at rows a b) (ne_eqb a x d))
 ]

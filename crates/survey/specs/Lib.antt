@@ -2,6 +2,7 @@
 pub mod Lists
 pub mod Tables
 pub mod Surveys
+pub mod Rules
 pub mod Sets
 pub mod Views
 pub mod Plans

@@ -1,7 +1,5 @@
 -- What neighbours and surveys in memory mean.
-use Rattle.std.specs.Prelude.{◌≡◌, ℕ, Bool, true, false, cond, not, ◌&&◌, ◌||◌, List, [], Ok, Err, Result, ◌==◌, nat_le}
-use Rattle.refusal.specs.declared.Refusal.{Refusal}
-use Rattle.refusal.specs.declared.Refusal.TheVariants.{BadNeighbour}
+use Rattle.std.specs.Prelude.{ℕ, Bool, false, cond, not, ◌&&◌, ◌||◌, List, [], ◌==◌, nat_le}
 use Rattle.refusal.specs.Outcomes.{Outcome, accepted, refused}
 use Rattle.survey.specs.declared.neighbours.Neighbours.{Neighbours}
 use Rattle.survey.specs.Tables.{at}
@@ -25,10 +23,3 @@ with_name s x y = record { count = s.count; linked = λ a b. (a == x && b == y) 
 
 abbrev pub naming : Survey → ℕ → ℕ → Outcome Survey
 naming s x y = cond (two_sensors s x y) (accepted (with_name s x y)) (refused 4)
-
--- the answer r when x is to name y, by the fields before and after
-abbrev pub Names : Neighbours → ℕ → ℕ → Result (Unit {0}) Refusal → Neighbours → Type 0
-Names old x y (Ok _) new =
-    (two_sensors (drawn old []) x y ≡ true) × (new.count ≡ old.count)
-    × ((a b : ℕ) → at new.rows a b ≡ ((a == x && b == y) || at old.rows a b))
-Names old x y (Err e) new = (e ≡ BadNeighbour) × (two_sensors (drawn old []) x y ≡ false) × (new ≡ old)

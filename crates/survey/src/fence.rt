@@ -1,75 +1,91 @@
-// The rules of a fence: different sensors, each linked to the next and the last to the first.
-ghost use Rattle.std.specs.Prelude.{◌≡◌, ◌+◌, ◌<◌, ◌≤◌, false, not, ◌&&◌, [], length, take, nat_le, slice_index_or};
+// A fence: sensors in cycle order, all different, each linked to the next and the last to the first.
+ghost use Rattle.std.specs.Prelude.{◌≡◌, ◌≤◌, ◌&&◌, [], length, nat_le};
 ghost use Rattle.survey.specs.Lists.{after};
 ghost use Rattle.survey.specs.Surveys.{distinct, nobody, all_linked, steps};
 ghost use Rattle.survey.specs.Views.{drawn};
 
+use crate::limits::{MAX_FENCE, MIN_FENCE};
 use crate::neighbours::Neighbours;
+use crate::sensor_set::SensorSet;
+use std::marker::Model;
 
-// Is `x` a sensor of 1 to `count` that was not met?
-fn is_new(count: u16, met: &[bool; 65], x: u16) -> bool
-    requires { count ≤ 64 }
-    ensures { result ≡ (nat_le 1 x && nat_le x count && not (slice_index_or met.now x false)) }
-{
-    x >= 1 && x <= count && !met[x as usize]
+// Up to 64 sensors, in a table of its own.
+#[derive(Drop)]
+pub(crate) struct Fence {
+    table: [u16; MAX_FENCE],
+    len: usize,
 }
 
-// Are these different sensors of 1 to `count`?
-fn is_distinct(count: u16, fence: &[u16]) -> bool
-    requires { count ≤ 64 }
-    ensures { result ≡ distinct count nobody fence.now }
-{
-    let mut met = [false; 65];
-    for x in fence {
-        if !is_new(count, &met, *x) {
-            return false;
-        }
-        met[*x as usize] = true;
+impl Model for Fence {
+    ghost use Rattle.std.specs.Prelude.{ℕ, ◌≤◌, List, take};
+
+    ghost Value = { List ℕ };
+
+    ghost view = { λ f. take f.len f.table };
+
+    ghost invariant = { λ f. f.len ≤ 64 };
+}
+
+impl Fence {
+    pub(crate) fn new(sensors: &[u16]) -> Fence
+        requires { length sensors.now ≤ 64 }
+        ensures { result ≡ sensors.now }
+    {
+        let len = sensors.len();
+        let mut table = [0; MAX_FENCE];
+        table[..len].copy_from_slice(sensors);
+        Fence { table, len }
     }
-    true
-}
 
-// Are these three or more different sensors of 1 to `count`?
-pub(crate) fn is_fence(count: u16, fence: &[u16]) -> bool
-    requires { count ≤ 64 }
-    ensures { result ≡ (nat_le 3 (length fence.now) && distinct count nobody fence.now) }
-{
-    fence.len() >= 3 && is_distinct(count, fence)
+    pub(crate) fn sensors(&self) -> &[u16]
+        ensures { result.now ≡ self.now }
+    {
+        &self.table[..self.len]
+    }
 }
 
 // The sensor after the place `i`, round the fence: the first after the last, and 0 if there is none.
 pub fn next(fence: &[u16], i: usize) -> u16
     ensures { result ≡ after fence.now i }
 {
-    if fence.len() == 0 {
-        0
-    } else if i < fence.len() - 1 {
-        fence[i + 1]
-    } else {
-        fence[0]
-    }
+    fence
+        .get(i.saturating_add(1))
+        .or(fence.first())
+        .copied()
+        .unwrap_or(0)
 }
 
-// Is each linked to the next, and the last to the first?
-pub(crate) fn is_closed(neighbours: &Neighbours, fence: &[u16]) -> bool
-    ensures { result ≡ all_linked (drawn neighbours.now []) (steps fence.now) }
-{
-    for i in 0..fence.len() {
-        if !neighbours.names(fence[i], next(fence, i)) {
-            return false;
+impl Neighbours {
+    // Are these different sensors?
+    fn is_distinct(&self, fence: &[u16]) -> bool
+        ensures { result ≡ distinct self.now.count nobody fence.now }
+    {
+        let mut met = SensorSet::empty();
+        for &x in fence {
+            if !self.is_sensor(x) || met.member(x) {
+                return false;
+            }
+            met = met.with(x);
         }
+        true
     }
-    true
-}
 
-// The list at the front of a table.
-pub(crate) fn in_table(fence: &[u16]) -> [u16; 64]
-    requires { length fence.now ≤ 64 }
-    ensures { take (length fence.now) result ≡ fence.now }
-{
-    let mut table = [0; 64];
-    for i in 0..fence.len() {
-        table[i] = fence[i];
+    // Are these three or more different sensors?
+    pub(crate) fn is_fence(&self, fence: &[u16]) -> bool
+        ensures { result ≡ (nat_le 3 (length fence.now) && distinct self.now.count nobody fence.now) }
+    {
+        fence.len() >= MIN_FENCE && self.is_distinct(fence)
     }
-    table
+
+    // Is each linked to the next, and the last to the first?
+    pub(crate) fn is_closed(&self, fence: &[u16]) -> bool
+        ensures { result ≡ all_linked (drawn self.now []) (steps fence.now) }
+    {
+        for (i, &u) in fence.iter().enumerate() {
+            if !self.names(u, next(fence, i)) {
+                return false;
+            }
+        }
+        true
+    }
 }

@@ -4,6 +4,7 @@
 mod counts;
 pub mod edge;
 pub mod fence;
+pub mod limits;
 pub mod neighbours;
 pub mod plan;
 pub mod sensor_set;

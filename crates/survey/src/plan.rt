@@ -1,28 +1,22 @@
-// A survey: neighbours that name each other, and a fence. Its ghost fields are its rules, so that no value breaks one.
-ghost use Rattle.std.specs.Prelude.{◌≡◌, ℕ, ◌≤◌, true, length, take};
-ghost use Rattle.survey.specs.Surveys.{distinct, nobody, edges, triangles, everyone, all_linked, steps};
-ghost use Rattle.survey.specs.Tables.{at};
+// A survey: neighbours that name each other, and a fence.
+ghost use Rattle.std.specs.Prelude.{◌≡◌, length};
+ghost use Rattle.survey.specs.Surveys.{edges, triangles, everyone, Valid};
+ghost use Rattle.survey.specs.Rules.{Valid-prop};
 ghost use Rattle.survey.specs.Views.{drawn};
 
+use crate::fence::Fence;
 use crate::neighbours::Neighbours;
 
-// The fence is the first `fenced` places of `fence`.
+// It keeps every rule.
 #[derive(Drop)]
 pub struct Survey {
     neighbours: Neighbours,
-    fence: [u16; 64],
-    fenced: usize,
+    fence: Fence,
     link_count: u16,
     triangle_count: u32,
-    ghost long: { 3 ≤ fenced },
-    ghost fits: { fenced ≤ 64 },
-    ghost different: { distinct neighbours.count nobody (take fenced fence) ≡ true },
-    ghost symmetric: { (x y : ℕ) → at neighbours.rows x y ≡ at neighbours.rows y x },
-    ghost links: { link_count ≡ length (edges (drawn neighbours (take fenced fence)) everyone) },
-    ghost fewlinks: { link_count ≤ 512 },
-    ghost thirds: { triangle_count ≡ length (triangles (drawn neighbours (take fenced fence)) everyone) },
-    ghost fewthirds: { triangle_count ≤ 1024 },
-    ghost closed: { all_linked (drawn neighbours (take fenced fence)) (steps (take fenced fence)) ≡ true },
+    ghost rules: { Valid (drawn neighbours fence) } by { Valid-prop (drawn neighbours fence) },
+    ghost links: { link_count ≡ length (edges (drawn neighbours fence) everyone) },
+    ghost thirds: { triangle_count ≡ length (triangles (drawn neighbours fence) everyone) },
 }
 
 pub mod calls;

@@ -1,39 +1,23 @@
 // Naming neighbours, and asking for them.
-ghost use Rattle.std.specs.Prelude.{◌≡◌, ℕ, ◌<◌, false, ◌&&◌, ◌||◌, [], OnErr, ◌==◌, slice_index_or};
+ghost use Rattle.std.specs.Prelude.{◌≡◌, ◌&&◌, [], OnErr, nat_le};
 ghost use Rattle.refusal.specs.Outcomes.{outcome};
-ghost use Rattle.survey.specs.Tables.{at};
-ghost use Rattle.survey.specs.Views.{drawn, unlinked, naming, Names};
+ghost use Rattle.survey.specs.Views.{drawn, unlinked, naming};
 
 use super::Neighbours;
+use crate::limits::{MAX_SENSORS, MIN_SENSORS, PLACES};
 use refusal::Refusal;
-
-// Sets the place y of the row.
-fn tick(row: &mut [bool; 65], y: usize)
-    requires { y < 65 }
-    ensures { (b : ℕ) → slice_index_or row.new b false ≡ (b == y || slice_index_or row.old b false) }
-{
-    row[y] = true;
-}
-
-// Sets the place (x, y) of the table.
-fn mark(rows: &mut [[bool; 65]; 65], x: usize, y: usize)
-    requires { (x < 65) × (y < 65) }
-    ensures { (a b : ℕ) → at rows.new a b ≡ ((a == x && b == y) || at rows.old a b) }
-{
-    tick(&mut rows[x], y);
-}
 
 impl Neighbours {
     // Sensors 1 to `count`, none of which names another yet.
     pub fn new(count: u16) -> Result<Neighbours, Refusal>
         ensures { outcome (λ n. drawn n []) result ≡ unlinked count }
     {
-        if count < 3 || count > 64 {
+        if !(MIN_SENSORS..=MAX_SENSORS).contains(&count) {
             return Err(Refusal::SensorCount);
         }
         Ok(Neighbours {
             count,
-            rows: [[false; 65]; 65],
+            rows: [[false; PLACES]; PLACES],
         })
     }
 
@@ -42,18 +26,19 @@ impl Neighbours {
         ensures answer { outcome (λ _. drawn self.new []) result ≡ naming (drawn self.old []) x y }
         ensures refused { OnErr result (self.new ≡ self.old) }
     {
-        self.put(x, y)
-    }
-
-    // The same, said of the fields.
-    fn put(&mut self, x: u16, y: u16) -> Result<(), Refusal>
-        ensures { Names self.old x y result self.new }
-    {
-        if x < 1 || x > self.count || y < 1 || y > self.count || x == y {
+        if !self.is_sensor(x) || !self.is_sensor(y) || x == y {
             return Err(Refusal::BadNeighbour);
         }
-        mark(&mut self.rows, x as usize, y as usize);
+        let row = &mut self.rows[usize::from(x)];
+        row[usize::from(y)] = true;
         Ok(())
+    }
+
+    // Is `x` a sensor's number?
+    pub(crate) fn is_sensor(&self, x: u16) -> bool
+        ensures { result ≡ (nat_le 1 x && nat_le x self.now.count) }
+    {
+        (1..=self.count).contains(&x)
     }
 
     // How many sensors there are.
@@ -67,6 +52,6 @@ impl Neighbours {
     pub fn names(&self, x: u16, y: u16) -> bool
         ensures { result ≡ (drawn self.now []).linked x y }
     {
-        x <= 64 && y <= 64 && self.rows[x as usize][y as usize]
+        x <= MAX_SENSORS && y <= MAX_SENSORS && self.rows[usize::from(x)][usize::from(y)]
     }
 }

@@ -1,18 +1,9 @@
--- A member is counted when it is met.
-use Rattle.std.proofs.Common.{true, false, arith}
+-- The members are those of 1 to 64 that pass.
+use Rattle.std.proofs.Common.{rules, refl}
 use Rattle.survey.specs.Sets.{set_of, members}
-use Rattle.survey.proofs.Walks.{ahead_if}
+use Rattle.survey.proofs.Ranges.{counted}
 use Rattle.survey.proofs.sensor_set.SensorSet.count.Goals as goal
-use Rattle.survey.proofs.sensor_set.SensorSet.count.Goals.{then-member, else-member}
 
-pub loop-x-init : goal.loop-x-init
+pub returns : goal.returns
 unfolding members
-loop-x-init c = (omega arith, omega arith)
-
-pub loop-x-preserved : goal.loop-x-preserved
-loop-x-preserved c =
-    let on = set_of c.args.self.now in
-    elim c.if-member.branch [
-      | then-member w ↦ (omega (arith, w.count-is, ahead_if on (λ x. x) 65 _ true c.loop-x-test.true w.if-member.ensures), omega (arith, w.count-is))
-      | else-member w ↦ (omega (arith, w.count-is, ahead_if on (λ x. x) 65 _ false c.loop-x-test.true w.if-member.ensures), omega (arith, w.count-is))
-    ]
+returns c = counted (set_of c.args.self.now) (λ x. x) c.count.ensures.runs c.filter.ensures.runs (λ x r f k. search rules) c.new.ensures refl
