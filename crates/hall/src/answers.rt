@@ -1,48 +1,91 @@
-// How answers are printed.
+// Why a line comes to nothing, and how surveys, rosters and lists are printed.
 use refusal::Refusal;
-use std::alloc::{AllocError, Global};
-use std::io;
+use std::alloc::AllocError;
+use std::{fmt, io};
 use survey::plan::Survey;
 use verifier::roster::Roster;
 use verifier::sensor::State;
 
-pub fn refused(rt: &HostRuntime, refusal: Refusal) -> io::Result<()> {
-    let number = refusal.number();
-    println!(rt; "refused {number}")
+#[derive(Debug, Drop)]
+pub enum Fault {
+    // the line is no command
+    Unknown,
+    NoRoster,
+    NoField,
+    NoMemory,
+    Refused(Refusal),
+    Io(io::Error),
 }
 
-// The numbers, with a space before each.
-fn spaced(heap: Global, numbers: &[u16]) -> Result<String, AllocError> {
-    let mut out = String::new(heap);
-    for x in numbers {
-        let one = format!(in heap; " {}", *x)?;
-        out.push_str(one.as_str())?;
+impl From<Refusal> for Fault {
+    fn from(refusal: Refusal) -> Fault {
+        Fault::Refused(refusal)
     }
-    Ok(out)
+}
+
+impl From<io::Error> for Fault {
+    fn from(error: io::Error) -> Fault {
+        Fault::Io(error)
+    }
+}
+
+impl From<AllocError> for Fault {
+    fn from(error: AllocError) -> Fault {
+        Fault::Io(io::Error::from(error))
+    }
+}
+
+// Prints why the line came to nothing; where the console itself failed, hands that on.
+pub fn show_fault(rt: &HostRuntime, line: &str, fault: Fault) -> io::Result<()> {
+    match fault {
+        Fault::Unknown => println!(rt; "what? {line}"),
+        Fault::NoRoster => println!(rt; "no roster"),
+        Fault::NoField => println!(rt; "no field"),
+        Fault::NoMemory => println!(rt; "no memory"),
+        Fault::Refused(refusal) => println!(rt; "{refusal}"),
+        Fault::Io(error) => Err(error),
+    }
+}
+
+// A list's items, each behind a space.
+#[derive(Clone, Copy)]
+pub struct Spaced<'a, T>(pub &'a [T]);
+
+impl<'a, T: fmt::Display> fmt::Display for Spaced<'a, T> {
+    fn fmt<W: fmt::Write>(&self, f: &mut fmt::Formatter<W>) -> fmt::Result {
+        for item in self.0 {
+            write!(f, " {item}")?;
+        }
+        Ok(())
+    }
 }
 
 // What a survey holds.
-pub fn show_survey(rt: &HostRuntime, survey: &Survey) -> io::Result<()> {
+pub fn show_survey(rt: &HostRuntime, survey: &Survey) -> Result<(), Fault> {
     let n = survey.count();
     let all = survey.all();
     let links = survey.edges_among(&all);
     let triangles = survey.triangles_among(&all);
     println!(rt; "n {n} links {links} triangles {triangles}")?;
-    let fence = spaced(rt.alloc(), survey.fence())?;
-    println!(rt; "fence{fence}")
+    println!(rt; "fence{}", Spaced(survey.fence()))?;
+    Ok(())
 }
 
-// One letter a sensor: F on the fence, 1 on, 0 off.
-pub fn show_roster(rt: &HostRuntime, roster: &Roster) -> io::Result<()> {
-    let mut letters = String::new(rt.alloc());
-    for x in 1..roster.survey().count() + 1 {
-        let letter = match roster.state(x) {
-            Some(State::Fence) => 'F',
-            Some(State::On) => '1',
-            Some(State::Off) => '0',
-            None => '?',
-        };
-        letters.push(letter)?;
+// A sensor's letter.
+fn letter(state: State) -> char {
+    match state {
+        State::Fence => 'F',
+        State::On => '1',
+        State::Off => '0',
     }
-    println!(rt; "{letters}")
+}
+
+// One letter a sensor.
+pub fn show_roster(rt: &HostRuntime, roster: &Roster) -> Result<(), Fault> {
+    let letters: String = (1..=roster.survey().count())
+        .filter_map(|x| roster.state(x))
+        .map(letter)
+        .collect(rt.alloc())?;
+    println!(rt; "{letters}")?;
+    Ok(())
 }

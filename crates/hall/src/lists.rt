@@ -1,55 +1,35 @@
 // The complex of a roster's sensors that are on, as lists of edges and triangles.
-use crate::answers::refused;
+use crate::answers::{Fault, Spaced};
 use complex::listing::{list_edges, list_triangles};
-use std::alloc::{AllocError, Global};
-use std::io;
+use std::fmt;
 use survey::edge::{Edge, Triangle};
 use verifier::roster::Roster;
 
-// The edges, each as a,b; - for none.
-fn shown_edges(heap: Global, edges: &[Edge]) -> Result<String, AllocError> {
-    if edges.is_empty() {
-        return String::from_str(heap, " -");
-    }
-    let mut out = String::new(heap);
-    for e in edges {
-        let one = format!(in heap; " {},{}", e.a, e.b)?;
-        out.push_str(one.as_str())?;
-    }
-    Ok(out)
-}
+// A list's items, each behind a space; - for none.
+#[derive(Clone, Copy)]
+struct Listed<'a, T>(&'a [T]);
 
-// The triangles, each as a,b,c; - for none.
-fn shown_triangles(heap: Global, triangles: &[Triangle]) -> Result<String, AllocError> {
-    if triangles.is_empty() {
-        return String::from_str(heap, " -");
+impl<'a, T: fmt::Display> fmt::Display for Listed<'a, T> {
+    fn fmt<W: fmt::Write>(&self, f: &mut fmt::Formatter<W>) -> fmt::Result {
+        if self.0.is_empty() {
+            return f.write_str(" -");
+        }
+        Spaced(self.0).fmt(f)
     }
-    let mut out = String::new(heap);
-    for t in triangles {
-        let one = format!(in heap; " {},{},{}", t.a, t.b, t.c)?;
-        out.push_str(one.as_str())?;
-    }
-    Ok(out)
 }
 
 // Lists the complex.
-pub fn show_complex(rt: &HostRuntime, roster: &Roster) -> io::Result<()> {
-    let heap = rt.alloc();
+pub fn show_complex(rt: &HostRuntime, roster: &Roster) -> Result<(), Fault> {
     let on = roster.sensors_on();
     let survey = roster.survey();
     let e = survey.edges_among(&on);
     let t = survey.triangles_among(&on);
-    let mut edges = vec![in heap; Edge { a: 0, b: 0 }; e as usize]?;
-    let mut triangles = vec![in heap; Triangle { a: 0, b: 0, c: 0 }; t as usize]?;
-    if let Err(refusal) = list_edges(survey, &on, &mut edges) {
-        return refused(rt, refusal);
-    }
-    if let Err(refusal) = list_triangles(survey, &on, &mut triangles) {
-        return refused(rt, refusal);
-    }
-    let edges = shown_edges(heap, &edges)?;
-    let triangles = shown_triangles(heap, &triangles)?;
+    let mut edges = vec![in rt.alloc(); Edge { a: 0, b: 0 }; e as usize]?;
+    let mut triangles = vec![in rt.alloc(); Triangle { a: 0, b: 0, c: 0 }; t as usize]?;
+    list_edges(survey, &on, &mut edges)?;
+    list_triangles(survey, &on, &mut triangles)?;
     println!(rt; "E {e} T {t}")?;
-    println!(rt; "edges{edges}")?;
-    println!(rt; "triangles{triangles}")
+    println!(rt; "edges{}", Listed(edges.as_slice()))?;
+    println!(rt; "triangles{}", Listed(triangles.as_slice()))?;
+    Ok(())
 }

@@ -1,109 +1,61 @@
 // Bytes in quotes, as the console reads and shows them.
+ghost use Rattle.std.specs.Prelude.{◌<◌, length, IfSome};
+
 use std::alloc::{AllocError, Global};
+use std::fmt;
 
-// How far an escape has come.
-#[derive(Clone, Copy)]
-enum Escape {
-    None,
-    Begun,
-    Hex,
-    // the first digit's value
-    Digit(u8),
+fn hex_value(b: u8) -> Option<u8>
+    ensures { IfSome result (λ v. v < 16) }
+{
+    Some((b as char).to_digit(16)? as u8)
 }
 
-fn hex_value(b: u8) -> Option<u8> {
-    match b {
-        b'0'..=b'9' => Some(b - b'0'),
-        b'a'..=b'f' => Some(b - b'a' + 10),
-        b'A'..=b'F' => Some(b - b'A' + 10),
-        _ => None,
-    }
-}
-
-// The byte that one letter after a backslash stands for.
-fn escaped(b: u8) -> Option<u8> {
-    match b {
-        b'n' => Some(b'\n'),
-        b'"' => Some(b'"'),
-        b'\\' => Some(b'\\'),
-        _ => None,
+// The next byte between the quotes, and what stands behind it; none at the end and at a fault.
+fn next_byte(quoted: &[u8]) -> Option<(u8, &[u8])>
+    ensures { IfSome result (λ next. length next.1.now < length quoted.now) }
+{
+    match quoted {
+        [b'\\', b'n', rest @ ..] => Some((b'\n', rest)),
+        [b'\\', b'x', high, low, rest @ ..] => {
+            Some((hex_value(*high)? * 16 + hex_value(*low)?, rest))
+        }
+        [b'\\', b, rest @ ..] if matches!(b, b'"' | b'\\') => Some((*b, rest)),
+        [b'"' | b'\\', ..] => None,
+        [b, rest @ ..] => Some((*b, rest)),
+        [] => None,
     }
 }
 
 // The bytes between the quotes, or none where they are not quoted as they should be.
 pub fn unquoted(heap: Global, quoted: &[u8]) -> Result<Option<Vec<u8>>, AllocError> {
-    let n = quoted.len();
-    if n < 2 || quoted[0] != b'"' || quoted[n - 1] != b'"' {
+    let [b'"', between @ .., b'"'] = quoted else {
         return Ok(None);
-    }
+    };
     let mut bytes = Vec::new(heap);
-    let mut escape = Escape::None;
-    for b in &quoted[1..n - 1] {
-        let (next, byte) = match step(escape, *b) {
-            Some(p) => p,
-            None => return Ok(None),
-        };
-        escape = next;
-        if let Some(byte) = byte {
-            bytes.push(byte)?;
-        }
+    let mut rest = between;
+    while let Some((byte, behind)) = next_byte(rest) {
+        bytes.push(byte)?;
+        rest = behind;
     }
-    match escape {
-        Escape::None => Ok(Some(bytes)),
-        _ => Ok(None),
-    }
+    Ok(rest.is_empty().then_some(bytes))
 }
 
-// One character more: how far an escape is now, and the byte that is complete; none at a fault.
-fn step(escape: Escape, b: u8) -> Option<(Escape, Option<u8>)> {
-    match escape {
-        Escape::None => match b {
-            b'"' => None,
-            b'\\' => Some((Escape::Begun, None)),
-            _ => Some((Escape::None, Some(b))),
-        },
-        Escape::Begun => {
-            if b == b'x' {
-                return Some((Escape::Hex, None));
+// Shows bytes in quotes.
+#[derive(Clone, Copy)]
+pub struct Quoted<'a>(pub &'a [u8]);
+
+impl<'a> fmt::Display for Quoted<'a> {
+    fn fmt<W: fmt::Write>(&self, f: &mut fmt::Formatter<W>) -> fmt::Result {
+        f.write_char('"')?;
+        for b in self.0 {
+            match b {
+                b'\n' => f.write_str("\\n")?,
+                b'"' => f.write_str("\\\"")?,
+                b'\\' => f.write_str("\\\\")?,
+                b' '..=b'~' => f.write_char(*b as char)?,
+                _ => write!(f, "\\x{b:02x}")?,
             }
-            Some((Escape::None, Some(escaped(b)?)))
         }
-        Escape::Hex => Some((Escape::Digit(hex_value(b)?), None)),
-        Escape::Digit(high) => Some((Escape::None, Some((high & 15) * 16 + (hex_value(b)? & 15)))),
+        f.write_char('"')
     }
-}
-
-fn hex_digit(v: u8) -> char {
-    if v < 10 {
-        (b'0' + v) as char
-    } else if v < 16 {
-        (b'a' + (v - 10)) as char
-    } else {
-        '?'
-    }
-}
-
-// Adds one byte as it stands between quotes.
-fn push_quoted(out: &mut String, b: u8) -> Result<(), AllocError> {
-    match b {
-        b'\n' => out.push_str("\\n"),
-        b'"' => out.push_str("\\\""),
-        b'\\' => out.push_str("\\\\"),
-        b' '..=b'~' => out.push(b as char),
-        _ => {
-            out.push_str("\\x")?;
-            out.push(hex_digit(b / 16))?;
-            out.push(hex_digit(b % 16))
-        }
-    }
-}
-
-// The bytes in quotes.
-pub fn quoted(heap: Global, bytes: &[u8]) -> Result<String, AllocError> {
-    let mut out = String::from_str(heap, "\"")?;
-    for b in bytes {
-        push_quoted(&mut out, *b)?;
-    }
-    out.push('"')?;
-    Ok(out)
 }

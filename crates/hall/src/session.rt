@@ -1,230 +1,170 @@
-// A conversation: the text so far, the roster that was read, the field that was chosen, and the commands on them and on a store.
-use crate::answers::{refused, show_roster, show_survey};
+// A conversation: its lines, the text so far, the roster that was read, the field that was chosen, and the commands on them and on a store.
+use crate::answers::{Fault, show_roster, show_survey};
 use crate::fields::AnyField;
 use crate::lists::show_complex;
-use crate::quote::{quoted, unquoted};
-use crate::storage::{Kind, begin, choose_store, entry, put, shape};
+use crate::numbers::{number, two_numbers};
+use crate::quote::{Quoted, unquoted};
+use crate::storage::{Kind, asked_for, begin, entry, put, shape};
 use customer::gf4::Gf4;
 use customer::gf9::Gf9;
 use field::Field;
 use field::gf2::Gf2;
 use field::gfp::GfP;
-use matrix::grid::Grid;
 use matrix::store::Store;
-use std::io;
+use std::io::{BufReader, Stdin};
 use verifier::roster::Roster;
 use verifier::roster::calls::read;
 
 #[derive(Drop)]
 pub struct Session {
+    pub lines: BufReader<Stdin>,
     pub text: Vec<u8>,
     pub roster: Option<Roster>,
     pub field: Option<AnyField>,
 }
 
-// What comes after a line: more lines, or a store of another kind.
-#[derive(Clone, Copy)]
-pub enum Next {
-    Stay,
-    Remake(Kind),
-    End,
-}
-
-pub fn unknown(rt: &HostRuntime, line: &str) -> io::Result<()> {
-    println!(rt; "what? {line}")
-}
-
-// A code; one above 65,535 counts as 65,535, which is no code of a field here.
-fn code(text: &str) -> Option<u16> {
-    match text.parse::<u64>() {
-        Ok(v) => Some(v.min(65535) as u16),
-        Err(_) => None,
-    }
-}
-
-// Two codes with a space between.
-fn two_codes(rest: &str) -> Option<(u16, u16)> {
-    let (a, b) = rest.split_once(" ")?;
-    Some((code(a)?, code(b)?))
-}
-
-// The number after "gfp ".
-fn modulus(rest: &str) -> Option<u16> {
-    code(rest.strip_prefix("gfp ")?)
-}
-
 impl Session {
-    // Answers one line.
+    // Answers one line; the store that it asks for, if it does.
     pub fn answer<S: Store>(
         &mut self,
         rt: &HostRuntime,
         store: &mut S,
         line: &str,
-    ) -> io::Result<Next> {
+    ) -> Result<Option<Kind>, Fault> {
         if line.starts_with("#") {
-            return Ok(Next::Stay);
+            return Ok(None);
         }
         let Some((word, rest)) = line.split_once(" ") else {
             self.answer_word(rt, store, line)?;
-            return Ok(Next::Stay);
+            return Ok(None);
         };
         match word {
-            "store" => return choose_store(rt, line, rest),
-            "begin" => begin(rt, store, line, rest)?,
-            "put" => put(rt, store, line, rest)?,
-            "entry" => entry(rt, store, line, rest)?,
-            _ => self.answer_words(rt, line, word, rest)?,
+            "store" => {
+                let kind = asked_for(rest)?;
+                println!(rt; "ok")?;
+                return Ok(Some(kind));
+            }
+            "begin" => begin(rt, store, rest)?,
+            "put" => put(rt, store, rest)?,
+            "entry" => entry(rt, store, rest)?,
+            _ => self.answer_words(rt, word, rest)?,
         }
-        Ok(Next::Stay)
+        Ok(None)
     }
 
     // Answers a command of one word.
     fn answer_word<S: Store>(
         &mut self,
         rt: &HostRuntime,
-        store: &mut S,
-        line: &str,
-    ) -> io::Result<()> {
-        match line {
+        store: &S,
+        word: &str,
+    ) -> Result<(), Fault> {
+        match word {
             "newtext" => {
                 self.text.clear();
                 Ok(())
             }
             "read" => self.read(rt),
-            "roster" => self.show(rt),
-            "complex" => self.show_lists(rt),
+            "roster" => show_roster(rt, self.roster()?),
+            "complex" => show_complex(rt, self.roster()?),
             "shape" => shape(rt, store),
-            _ => unknown(rt, line),
+            _ => Err(Fault::Unknown),
         }
     }
 
     // Answers a command on text, roster and field.
-    fn answer_words(
-        &mut self,
-        rt: &HostRuntime,
-        line: &str,
-        word: &str,
-        rest: &str,
-    ) -> io::Result<()> {
+    fn answer_words(&mut self, rt: &HostRuntime, word: &str, rest: &str) -> Result<(), Fault> {
         match word {
-            "text" => self.add_text(rt, line, rest),
-            "write" => self.write(rt, line, rest),
-            "field" => self.choose_field(rt, line, rest),
-            "sum" | "product" => self.of_two(rt, line, word, rest),
-            "negative" | "inverse" => self.of_one(rt, line, word, rest),
-            _ => unknown(rt, line),
+            "text" => self.add_text(rt, rest),
+            "write" => self.write(rt, rest),
+            "field" => self.choose_field(rt, rest),
+            "sum" => self.of_two(rt, rest, |field, a, b| field.sum(a, b)),
+            "product" => self.of_two(rt, rest, |field, a, b| field.product(a, b)),
+            "negative" => self.of_one(rt, rest, |field, a| field.negative(a)),
+            "inverse" => self.of_one(rt, rest, |field, a| field.inverse(a)),
+            _ => Err(Fault::Unknown),
         }
     }
 
-    fn add_text(&mut self, rt: &HostRuntime, line: &str, rest: &str) -> io::Result<()> {
-        match unquoted(rt.alloc(), rest.as_bytes())? {
-            Some(bytes) => {
-                self.text.extend_from_slice(&bytes)?;
-                Ok(())
-            }
-            None => unknown(rt, line),
-        }
+    fn roster(&self) -> Result<&Roster, Fault> {
+        self.roster.as_ref().ok_or(Fault::NoRoster)
     }
 
-    fn read(&mut self, rt: &HostRuntime) -> io::Result<()> {
-        match read(&mut self.roster, self.text.as_slice()) {
-            Ok(place) => {
-                println!(rt; "ok {place}")?;
-                match &self.roster {
-                    Some(roster) => show_survey(rt, roster.survey()),
-                    None => Ok(()),
-                }
-            }
-            Err(refusal) => refused(rt, refusal),
-        }
+    fn add_text(&mut self, rt: &HostRuntime, rest: &str) -> Result<(), Fault> {
+        let bytes = unquoted(rt.alloc(), rest.as_bytes())?.ok_or(Fault::Unknown)?;
+        self.text.extend_from_slice(&bytes)?;
+        Ok(())
     }
 
-    fn write(&self, rt: &HostRuntime, line: &str, rest: &str) -> io::Result<()> {
+    fn read(&mut self, rt: &HostRuntime) -> Result<(), Fault> {
+        let place = read(&mut self.roster, &self.text)?;
+        println!(rt; "ok {place}")?;
+        show_survey(rt, self.roster()?.survey())
+    }
+
+    fn write(&self, rt: &HostRuntime, rest: &str) -> Result<(), Fault> {
         let Ok(length) = rest.parse::<usize>() else {
-            return unknown(rt, line);
+            return Err(Fault::Unknown);
         };
-        let Some(roster) = &self.roster else {
-            return println!(rt; "no roster");
-        };
+        let roster = self.roster()?;
         let Ok(mut buffer) = vec![in rt.alloc(); b'#'; length] else {
-            return println!(rt; "no memory");
+            return Err(Fault::NoMemory);
         };
         match roster.write(&mut buffer) {
             Ok(length) => println!(rt; "ok {length}")?,
-            Err(refusal) => refused(rt, refusal)?,
+            Err(refusal) => println!(rt; "{refusal}")?,
         }
-        let shown = quoted(rt.alloc(), &buffer)?;
-        println!(rt; "buffer {shown}")
+        println!(rt; "buffer {}", Quoted(buffer.as_slice()))?;
+        Ok(())
     }
 
-    fn show_lists(&self, rt: &HostRuntime) -> io::Result<()> {
-        match &self.roster {
-            Some(roster) => show_complex(rt, roster),
-            None => println!(rt; "no roster"),
-        }
-    }
-
-    fn show(&self, rt: &HostRuntime) -> io::Result<()> {
-        match &self.roster {
-            Some(roster) => show_roster(rt, roster),
-            None => println!(rt; "no roster"),
-        }
-    }
-
-    fn choose_field(&mut self, rt: &HostRuntime, line: &str, rest: &str) -> io::Result<()> {
-        match rest {
-            "gf2" => self.take_field(rt, AnyField::Two(Gf2)),
-            "gf4" => self.take_field(rt, AnyField::Four(Gf4)),
-            "gf9" => self.take_field(rt, AnyField::Nine(Gf9)),
+    fn choose_field(&mut self, rt: &HostRuntime, rest: &str) -> Result<(), Fault> {
+        let field = match rest {
+            "gf2" => AnyField::Two(Gf2),
+            "gf4" => AnyField::Four(Gf4),
+            "gf9" => AnyField::Nine(Gf9),
             _ => {
-                let Some(p) = modulus(rest) else {
-                    return unknown(rt, line);
-                };
-                match GfP::new(p) {
-                    Ok(field) => self.take_field(rt, AnyField::Prime(field)),
-                    Err(refusal) => refused(rt, refusal),
-                }
+                let modulus = rest.strip_prefix("gfp ").ok_or(Fault::Unknown)?;
+                AnyField::Prime(GfP::new(number(modulus, u16::MAX)?)?)
             }
-        }
-    }
-
-    fn take_field(&mut self, rt: &HostRuntime, field: AnyField) -> io::Result<()> {
-        let order = field.order();
+        };
         self.field = Some(field);
-        println!(rt; "ok {order}")
+        let order = field.order();
+        println!(rt; "ok {order}")?;
+        Ok(())
     }
 
-    fn of_two(&self, rt: &HostRuntime, line: &str, word: &str, rest: &str) -> io::Result<()> {
-        let Some((a, b)) = two_codes(rest) else {
-            return unknown(rt, line);
-        };
-        match &self.field {
-            Some(field) => {
-                let code = if word == "sum" {
-                    field.sum(a, b)
-                } else {
-                    field.product(a, b)
-                };
-                println!(rt; "{code}")
-            }
-            None => println!(rt; "no field"),
-        }
+    fn field(&self) -> Result<&AnyField, Fault> {
+        self.field.as_ref().ok_or(Fault::NoField)
     }
 
-    fn of_one(&self, rt: &HostRuntime, line: &str, word: &str, rest: &str) -> io::Result<()> {
-        let Some(a) = code(rest) else {
-            return unknown(rt, line);
-        };
-        match &self.field {
-            Some(field) => {
-                let code = if word == "negative" {
-                    field.negative(a)
-                } else {
-                    field.inverse(a)
-                };
-                println!(rt; "{code}")
-            }
-            None => println!(rt; "no field"),
-        }
+    // Computes with two codes; a number above 65,535 counts as 65,535, which is no code of a field here.
+    fn of_two<F: Fn(&AnyField, u16, u16) -> u16>(
+        &self,
+        rt: &HostRuntime,
+        rest: &str,
+        compute: F,
+    ) -> Result<(), Fault>
+        requires { F.IsAlwaysCallable compute }
+    {
+        let (a, b) = two_numbers(rest, u16::MAX)?;
+        let code = compute(self.field()?, a, b);
+        println!(rt; "{code}")?;
+        Ok(())
+    }
+
+    // The same with one.
+    fn of_one<F: Fn(&AnyField, u16) -> u16>(
+        &self,
+        rt: &HostRuntime,
+        rest: &str,
+        compute: F,
+    ) -> Result<(), Fault>
+        requires { F.IsAlwaysCallable compute }
+    {
+        let a = number(rest, u16::MAX)?;
+        let code = compute(self.field()?, a);
+        println!(rt; "{code}")?;
+        Ok(())
     }
 }
