@@ -1,5 +1,5 @@
 // The starting matrix as a grid that holds no entries: it reads them off lists.
-ghost use Rattle.std.specs.Prelude.{◌≡◌, ◌≤◌, true, [], length, if◌then◌else◌};
+ghost use Rattle.std.specs.Prelude.{◌≡◌, ◌≤◌, true, ◌&&◌, [], length, if◌then◌else◌, nat_le};
 ghost use Rattle.complex.specs.Orders.{ascends, edge_less};
 
 mod columns;
@@ -19,6 +19,13 @@ pub struct BoundaryGrid<'e, 't, 'f> {
     ghost links: { length edges.now ≤ 512 },
     ghost thirds: { length triangles.now ≤ 1024 },
     ghost rising: { ascends edge_less edges.now ≡ true },
+}
+
+// Do they ascend, and are they no more than a survey can have?
+fn are_edges(list: &[Edge]) -> bool
+    ensures { result ≡ (nat_le (length list.now) 512 && ascends edge_less list.now) }
+{
+    list.len() <= 512 && is_ascending(list)
 }
 
 // The list if it can be used, else none of it.
@@ -43,7 +50,7 @@ impl<'e, 't, 'f> BoundaryGrid<'e, 't, 'f> {
         ensures holds { matrix_of result ≡ starting_matrix (listed_system minus (usable_edges_of edges.now) (usable_triangles_of triangles.now) fence.now) }
         ensures survey { OfSurveys edges.now triangles.now fence.now minus (matrix_of result) }
     {
-        let edges = usable(edges, edges.len() <= 512 && is_ascending(edges));
+        let edges = usable(edges, are_edges(edges));
         let triangles = usable(triangles, triangles.len() <= 1024);
         BoundaryGrid {
             edges,
