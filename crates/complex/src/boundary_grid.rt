@@ -32,7 +32,7 @@ fn are_edges(list: &[Edge]) -> bool
 fn usable<R>(list: &[R], can_use: bool) -> &[R]
     ensures { result.now ≡ (if can_use then list.now else []) }
 {
-    if can_use { list } else { &list[0..0] }
+    if can_use { list } else { &[] }
 }
 
 impl<'e, 't, 'f> BoundaryGrid<'e, 't, 'f> {
