@@ -4,12 +4,14 @@ use Rattle.std.proofs.lemmas.List.{get_or_default}
 use Rattle.std.proofs.lemmas.Bool.{cases_lt, cases_eq, cases_order, cases_Bool, and_parts, or_parts, or_from, eqb-true, cond-false}
 use Rattle.std.proofs.lemmas.Bool.Decides.{nat_tests}
 use Rattle.matrix.specs.Matrix.{inside}
-use Rattle.matrix.specs.Nonzero.{First}
+use Rattle.matrix.specs.Nonzero.{First, next_in}
+use Rattle.matrix.proofs.Nonzeros.{next_by}
 use Rattle.survey.specs.declared.edge.Edge.{Edge}
 use Rattle.survey.specs.declared.edge.Triangle.{Triangle}
 use Rattle.survey.specs.Surveys.{edge, steps}
+use Rattle.complex.specs.declared.boundary_grid.BoundaryGrid.{BoundaryGrid}
 use Rattle.complex.specs.Boundaries.{boundary_code_of, has_step_of, listed_system, no_edge, no_triangle}
-use Rattle.complex.specs.Grids.{Before, Nearer, starting_outside}
+use Rattle.complex.specs.Grids.{matrix_of, Before, Nearer, starting_outside}
 use Rattle.complex.specs.OrderLaws.{edge_apart, edge_chained}
 use Rattle.complex.specs.Orders.{ascends, edge_less, Stands}
 use Rattle.complex.specs.Systems.{System, starting}
@@ -237,3 +239,7 @@ module _ (minus : ℕ) (es : List Edge) (ts : List Triangle) (fence : List ℕ) 
     where
       out : (n k r c : ℕ) → (1 ≤ c → c ≤ k → ⊥) → inside n k r c ≡ false
       out n k r c d = grind (arith, nat_tests)
+
+-- what a search in the boundary grid found is what the definition says
+pub next_found : (g : BoundaryGrid) (c first : ℕ) (o : Option ℕ) → First (λ i. (matrix_of g).at i c) first o → o ≡ next_in (matrix_of g) c first
+next_found g c first o = next_by (matrix_of g) c first o (starting_outside (listed_system g.minus g.edges.now g.triangles.now g.fence.now))

@@ -1,11 +1,11 @@
 -- Lists that ascend: each element is below each later one, and what a search by halves and a test of neighbours say of them.
 use Rattle.std.proofs.Common.{◌≡◌, ℕ, zero, suc, ◌+◌, ◌<◌, Bool, true, false, List, [], ◌∷◌, length, get_or, Ordering, Less, Equal, Greater, Ok, Err, Result, Option, sym, refl, ap, ◌∙◌, subst, ⊎_elim, true≢false, add-one, arith}
 use Rattle.std.specs.Cmp.{IsTotalOrder}
-use Rattle.std.specs.List.{AllByRecursion, IsAllAdjacentAnswer}
+use Rattle.std.specs.List.{AllByRecursion, AllPairs, IsAllAdjacentAnswer}
 use Rattle.std.specs.List.Sorted.{IsBinarySearchResult, IsSearchInRange, IsSortedBy}
 use Rattle.std.specs.Ordering.{is_lt, is_eq, ordering_reverse}
 use Rattle.std.specs.Result.{result_ok}
-use Rattle.std.proofs.ByRecursion.{All-get_or}
+use Rattle.std.proofs.ByRecursion.{All-get_or, All-weaker}
 use Rattle.std.proofs.lemmas.Bool.{and_parts, and_from, cases_lt}
 use Rattle.std.proofs.lemmas.Cmp.{tied_itself}
 use Rattle.std.proofs.lemmas.List.Sorted.{searchable_from_sorted}
@@ -23,20 +23,12 @@ module _ {R : Type 0} (less : R → R → Bool) where
   Sorted [] = Unit {0}
   Sorted (x ∷ xs) = AllByRecursion (λ y. less x y ≡ true) xs × Sorted xs
 
-  -- each element is below each later one
-  abbrev pub Ascending : List R → Type 0
-  Ascending xs = (i j : ℕ) (d : R) → i < j → j < length xs → less (get_or xs i d) (get_or xs j d) ≡ true
-
-  all_above : Chained → (x y : R) (ys : List R) → less x y ≡ true → AllByRecursion (λ z. less y z ≡ true) ys → AllByRecursion (λ z. less x z ≡ true) ys
-  all_above ch x y [] h a = tt
-  all_above ch x y (z ∷ zs) h a = (ch x y z h a.0, all_above ch x y zs h a.1)
-
   sorted_from : Chained → (x : R) (xs : List R) → ascends_from less x xs ≡ true → Sorted (x ∷ xs)
   sorted_from ch x [] e = (tt, tt)
   sorted_from ch x (y ∷ ys) e =
       let p = and_parts (less x y) (ascends_from less y ys) e in
       let s = sorted_from ch y ys p.1 in
-      ((p.0, all_above ch x y ys p.0 s.0), s)
+      ((p.0, All-weaker (λ z. less y z ≡ true) (λ z. less x z ≡ true) (λ z h. ch x y z p.0 h) ys s.0), s)
 
   pub ascends_sorted : Chained → (xs : List R) → ascends less xs ≡ true → Sorted xs
   ascends_sorted ch [] e = tt
@@ -50,13 +42,13 @@ module _ {R : Type 0} (less : R → R → Bool) where
   sorted_ascends [] s = refl
   sorted_ascends (x ∷ xs) s = from_sorted x xs s
 
-  pub sorted_far : (xs : List R) → Sorted xs → Ascending xs
+  pub sorted_far : (xs : List R) → Sorted xs → AllPairs (λ x y. less x y ≡ true) xs
   sorted_far [] h i j d lt in' = absurd (omega arith)
   sorted_far (x ∷ xs) h i zero d lt in' = absurd (omega arith)
   sorted_far (x ∷ xs) h zero (suc j) d lt in' = All-get_or (λ y. less x y ≡ true) xs j d (omega arith) h.0
   sorted_far (x ∷ xs) h (suc i) (suc j) d lt in' = sorted_far xs h.1 i j d (omega arith) (omega arith)
 
-  pub ascends_far : Chained → (xs : List R) → ascends less xs ≡ true → Ascending xs
+  pub ascends_far : Chained → (xs : List R) → ascends less xs ≡ true → AllPairs (λ x y. less x y ≡ true) xs
   ascends_far ch xs e = sorted_far xs (ascends_sorted ch xs e)
 
   -- each below the next is enough

@@ -1,5 +1,5 @@
 -- The boundary grid in memory as the starting matrix, and a search in one of its columns.
-use Rattle.std.specs.Prelude.{◌≡◌, ℕ, ◌+◌, ◌-◌, ◌<◌, ◌≤◌, Bool, true, false, cond, ◌&&◌, ◌⊎◌, List, [], length, Some, None, Option, ◌≢◌, nat_le, refl}
+use Rattle.std.specs.Prelude.{◌≡◌, ℕ, ◌+◌, ◌-◌, ◌<◌, ◌≤◌, Bool, true, false, cond, ◌&&◌, ◌⊎◌, List, [], length, Some, Option, IfSome, ◌≢◌, nat_le, refl}
 use Rattle.std.proofs.Common.{◌∙◌, arith}
 use Rattle.std.proofs.lemmas.Bool.{and_parts, and_from, le-leb, leb-true, ltb-true, eqb-true, both_ways}
 use Rattle.field.specs.Arithmetic.{Arithmetic}
@@ -27,10 +27,9 @@ abbrev pub OfSurveys : List Edge → List Triangle → List ℕ → ℕ → Matr
 OfSurveys es ts fence minus m = (s : Survey) (on : Sensors) (F : Arithmetic) → Valid s
     → es ≡ edges s on → ts ≡ triangles s on → fence ≡ s.fence → minus ≡ F.negative 1 → m ≡ starting_matrix (system s on F)
 
--- is the row i before the one that was found, if one was?
+-- the row i is before the one that was found, if one was
 abbrev pub Before : ℕ → Option ℕ → Type 0
-Before i None = Unit {0}
-Before i (Some r) = i < r
+Before i found = IfSome found (λ r. i < r)
 
 -- a search for the first nonzero row of a column f from `first` on has come from one row, or none, to the nearest so far: a
 -- nonzero one, if it is another, and the rows from `first` to before it that hold the edge e are zero

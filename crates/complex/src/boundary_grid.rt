@@ -1,5 +1,5 @@
 // The starting matrix as a grid that holds no entries: it reads them off lists.
-ghost use Rattle.std.specs.Prelude.{◌≡◌, ◌≤◌, true, [], length, if◌then◌else◌};
+ghost use Rattle.std.specs.Prelude.{◌≡◌, ◌≤◌, true, ◌&&◌, [], length, if◌then◌else◌, nat_le};
 ghost use Rattle.complex.specs.Orders.{ascends, edge_less};
 
 mod columns;
@@ -21,11 +21,18 @@ pub struct BoundaryGrid<'e, 't, 'f> {
     ghost rising: { ascends edge_less edges.now ≡ true },
 }
 
+// Do they ascend, and are they no more than a survey can have?
+fn are_edges(list: &[Edge]) -> bool
+    ensures { result ≡ (nat_le (length list.now) 512 && ascends edge_less list.now) }
+{
+    list.len() <= 512 && is_ascending(list)
+}
+
 // The list if it can be used, else none of it.
 fn usable<R>(list: &[R], can_use: bool) -> &[R]
     ensures { result.now ≡ (if can_use then list.now else []) }
 {
-    if can_use { list } else { &list[0..0] }
+    if can_use { list } else { &[] }
 }
 
 impl<'e, 't, 'f> BoundaryGrid<'e, 't, 'f> {
@@ -43,7 +50,7 @@ impl<'e, 't, 'f> BoundaryGrid<'e, 't, 'f> {
         ensures holds { matrix_of result ≡ starting_matrix (listed_system minus (usable_edges_of edges.now) (usable_triangles_of triangles.now) fence.now) }
         ensures survey { OfSurveys edges.now triangles.now fence.now minus (matrix_of result) }
     {
-        let edges = usable(edges, edges.len() <= 512 && is_ascending(edges));
+        let edges = usable(edges, are_edges(edges));
         let triangles = usable(triangles, triangles.len() <= 1024);
         BoundaryGrid {
             edges,

@@ -7,7 +7,7 @@ ghost use Rattle.complex.specs.Orders.{ascends, Found, edge_less, triangle_less}
 
 use survey::edge::{Edge, Triangle};
 
-// `Ord` alone may call two different records equal.
+// An order in which only the same records tie, which `Ord` alone does not promise; `less` is what its `<` means.
 pub trait TotalOrder: Ord {
     ghost less: { Self → Self → Bool };
 

@@ -1,4 +1,7 @@
 // Pairs and triples of sensors.
+ghost use Rattle.std.specs.Prelude.{◌++◌, Some, codes};
+ghost use Rattle.std.specs.Fmt.{decimal};
+
 use std::fmt;
 
 // A pair of sensors.
@@ -17,12 +20,16 @@ pub struct Triangle {
 }
 
 impl fmt::Display for Edge {
+    ghost output = { λ e. Some (decimal e.a ++ codes "," ++ decimal e.b) };
+
     fn fmt<W: fmt::Write>(&self, f: &mut fmt::Formatter<W>) -> fmt::Result {
         write!(f, "{},{}", self.a, self.b)
     }
 }
 
 impl fmt::Display for Triangle {
+    ghost output = { λ t. Some (decimal t.a ++ codes "," ++ decimal t.b ++ codes "," ++ decimal t.c) };
+
     fn fmt<W: fmt::Write>(&self, f: &mut fmt::Formatter<W>) -> fmt::Result {
         write!(f, "{},{},{}", self.a, self.b, self.c)
     }

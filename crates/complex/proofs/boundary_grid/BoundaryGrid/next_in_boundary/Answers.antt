@@ -1,21 +1,15 @@
 -- The four rows of a triangle's column.
-use Rattle.std.proofs.Common.{None, arith}
-use Rattle.matrix.proofs.Nonzeros.{next_by}
-use Rattle.complex.specs.Boundaries.{listed_system}
-use Rattle.complex.specs.Grids.{matrix_of, starting_outside}
-use Rattle.complex.proofs.Columns.{boundary_none, boundary_first}
+use Rattle.std.proofs.Common.{arith}
+use Rattle.complex.proofs.Columns.{boundary_none, boundary_first, next_found}
 use Rattle.complex.proofs.boundary_grid.BoundaryGrid.next_in_boundary.Goals as goal
 
 pub returns-then-first-own : goal.returns-then-first-own
 returns-then-first-own c =
     let g = c.args.self.now in
-    let S = listed_system g.minus g.edges.now g.triangles.now g.fence.now in
-    next_by (matrix_of g) c.args.column c.args.first None (starting_outside S)
-    (boundary_none g.minus g.edges.now g.triangles.now g.fence.now c.args.column c.requires.0 c.requires.1 c.args.first (omega arith))
+    next_found g _ _ _ (boundary_none g.minus g.edges.now g.triangles.now g.fence.now c.args.column c.requires.0 c.requires.1 c.args.first (omega arith))
 
 pub returns : goal.returns
 returns c =
     let g = c.args.self.now in
-    let S = listed_system g.minus g.edges.now g.triangles.now g.fence.now in
-    next_by (matrix_of g) c.args.column c.args.first c.nearer.result (starting_outside S)
+    next_found g _ _ _
     (boundary_first g.minus g.edges.now g.triangles.now g.fence.now c.args.column c.requires.0 c.requires.1 c.args.first _ _ _ (omega arith) c.nearer-nearest.ensures c.nearer-nearest-2.ensures c.nearer.ensures)

@@ -1,12 +1,9 @@
 -- Each step is one that the search passes, both ways.
 use Rattle.std.proofs.Common.{◌+◌, ◌∷◌, get_or, drop, sym, ap, ◌∙◌, subst}
 use Rattle.std.proofs.lemmas.List.{at_drop_all}
-use Rattle.matrix.proofs.Nonzeros.{next_by}
 use Rattle.survey.specs.Surveys.{edge, steps_from}
 use Rattle.survey.proofs.Fences.{steps_more, steps_whole}
-use Rattle.complex.specs.Boundaries.{listed_system}
-use Rattle.complex.specs.Grids.{matrix_of, starting_outside}
-use Rattle.complex.proofs.Columns.{Passing, passing_none, passing_more, passing_all}
+use Rattle.complex.proofs.Columns.{Passing, passing_none, passing_more, passing_all, next_found}
 use Rattle.complex.proofs.boundary_grid.BoundaryGrid.next_in_fence.Goals as goal
 
 pub loop-i-init : goal.loop-i-init
@@ -28,7 +25,5 @@ pub returns : goal.returns
 returns c =
     let g = c.args.self.now in
     let xs = g.fence.now in
-    let S = listed_system g.minus g.edges.now g.triangles.now xs in
     let end = at_drop_all (steps_from (get_or xs 0 0)) xs c.loop-i.i c.loop-i-test.false in
-    next_by (matrix_of g) _ c.args.first c.loop-i.nearest (starting_outside S)
-    (passing_all g.minus g.edges.now g.triangles.now xs c.args.first _ (subst (Passing _ _ _ _ _ _) end c.loop-i.invariant))
+    next_found g _ _ _ (passing_all g.minus g.edges.now g.triangles.now xs c.args.first _ (subst (Passing _ _ _ _ _ _) end c.loop-i.invariant))
