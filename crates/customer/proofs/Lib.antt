@@ -1,5 +1,4 @@
 -- Lemmas of the crate; those for other crates are `pub mod`.
 mod Writes
-mod Squares
-mod Talls
+mod Shapes
 mod Fillings

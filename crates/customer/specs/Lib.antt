@@ -1,8 +1,7 @@
 -- What the contracts of the crate cite.
 pub mod Polynomials
 pub mod Filling
-pub mod Squares
-pub mod Talls
+pub mod Shapes
 pub mod Highest
 pub mod FourLaws
 pub mod NineLaws

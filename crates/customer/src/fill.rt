@@ -5,11 +5,9 @@ ghost use Rattle.matrix.specs.Terms.{told};
 ghost use Rattle.stores.specs.Packed.{entry_width};
 ghost use Rattle.stores.specs.Dense.{dense_terms};
 ghost use Rattle.customer.specs.Filling.{fill_outcome, fill_after, filled_count};
-ghost use Rattle.customer.specs.Squares.{square_terms};
-ghost use Rattle.customer.specs.Talls.{tall_terms};
+ghost use Rattle.customer.specs.Shapes.{shaped_terms};
 
-use crate::square::Square;
-use crate::tall::Tall;
+use crate::shaped::{ShapeRule, Shaped};
 use matrix::grid::Grid;
 use matrix::put::Put;
 use matrix::store::{Store, put_all};
@@ -28,6 +26,14 @@ pub fn fill<S: Store>(store: &mut S, rows: u32, columns: u32, puts: &[Put]) -> R
     put_all(store, puts)
 }
 
+// The same, told by how many entries are not 0.
+fn filled<S: Store>(store: &mut S, rows: u32, columns: u32, puts: &[Put]) -> Result<u64, Refusal>
+    ensures { outcome (λ n. n) result ≡ filled_count (S.terms store.old) rows columns puts.now }
+{
+    fill(store, rows, columns, puts)?;
+    Ok(store.nonzero())
+}
+
 // Fills a dense store of w bits an entry, and tells how many entries are not 0.
 pub fn fill_dense(
     w: u32,
@@ -38,33 +44,27 @@ pub fn fill_dense(
 ) -> Result<u64, Refusal>
     ensures { outcome (λ n. n) result ≡ and_then (entry_width w) (λ bits. filled_count (dense_terms bits (length bytes.old)) rows columns puts.now) }
 {
-    let width = EntryWidth::check(w)?;
-    let mut store = Dense::new(width, bytes);
-    fill(&mut store, rows, columns, puts)?;
-    Ok(store.nonzero())
+    let width = EntryWidth::try_from(w)?;
+    filled(&mut Dense::new(width, bytes), rows, columns, puts)
 }
 
-// Fills a store of square matrices, and tells how many entries are not 0.
-pub fn fill_square(codes: &mut [u16], rows: u32, columns: u32, puts: &[Put]) -> Result<u64, Refusal>
-    ensures { outcome (λ n. n) result ≡ filled_count (square_terms (length codes.old)) rows columns puts.now }
+// Fills a store of the shapes that a rule takes, and tells how many entries are not 0.
+pub fn fill_shaped<R: ShapeRule>(
+    codes: &mut [u16],
+    rows: u32,
+    columns: u32,
+    puts: &[Put],
+) -> Result<u64, Refusal>
+    ensures { outcome (λ n. n) result ≡ filled_count (shaped_terms R.takes (length codes.old)) rows columns puts.now }
 {
-    let mut square = Square::new(codes);
-    fill(&mut square, rows, columns, puts)?;
-    Ok(square.nonzero())
-}
-
-// Fills a store of tall matrices, and tells how many entries are not 0.
-pub fn fill_tall(codes: &mut [u16], rows: u32, columns: u32, puts: &[Put]) -> Result<u64, Refusal>
-    ensures { outcome (λ n. n) result ≡ filled_count (tall_terms (length codes.old)) rows columns puts.now }
-{
-    let mut tall = Tall::new(codes);
-    fill(&mut tall, rows, columns, puts)?;
-    Ok(tall.nonzero())
+    filled(&mut Shaped::<R>::new(codes), rows, columns, puts)
 }
 
 #[cfg(test)]
 mod tests {
-    use super::{fill_dense, fill_square, fill_tall};
+    use super::{fill_dense, fill_shaped};
+    use crate::square::SquareRule;
+    use crate::tall::TallRule;
     use matrix::put::Put;
     use refusal::Refusal;
     use std::test::Fail;
@@ -128,13 +128,13 @@ mod tests {
     #[test]
     fn square_shapes_only(rt: HostRuntime) -> Result<(), Fail> {
         let mut codes = [0xffffu16; 16];
-        assert_eq!(rt; fill_square(&mut codes, 4, 4, &PUTS)?, 2);
+        assert_eq!(rt; fill_shaped::<SquareRule>(&mut codes, 4, 4, &PUTS)?, 2);
         assert_eq!(rt;
-            fill_square(&mut codes, 4, 3, &PUTS),
+            fill_shaped::<SquareRule>(&mut codes, 4, 3, &PUTS),
             Err(Refusal::ShapeNotTaken)
         );
         assert_eq!(rt;
-            fill_square(&mut codes, 5, 5, &PUTS),
+            fill_shaped::<SquareRule>(&mut codes, 5, 5, &PUTS),
             Err(Refusal::ShapeNotTaken)
         );
         Ok(())
@@ -143,13 +143,13 @@ mod tests {
     #[test]
     fn tall_shapes_only(rt: HostRuntime) -> Result<(), Fail> {
         let mut codes = [0xffffu16; 16];
-        assert_eq!(rt; fill_tall(&mut codes, 4, 4, &PUTS)?, 2);
+        assert_eq!(rt; fill_shaped::<TallRule>(&mut codes, 4, 4, &PUTS)?, 2);
         assert_eq!(rt;
-            fill_tall(&mut codes, 3, 4, &PUTS),
+            fill_shaped::<TallRule>(&mut codes, 3, 4, &PUTS),
             Err(Refusal::ShapeNotTaken)
         );
         assert_eq!(rt;
-            fill_tall(&mut codes, 5, 5, &PUTS),
+            fill_shaped::<TallRule>(&mut codes, 5, 5, &PUTS),
             Err(Refusal::ShapeNotTaken)
         );
         Ok(())

@@ -7,5 +7,6 @@ pub mod fill;
 pub mod gf4;
 pub mod gf9;
 pub mod highest;
+pub mod shaped;
 pub mod square;
 pub mod tall;

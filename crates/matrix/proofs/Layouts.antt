@@ -1,8 +1,9 @@
 -- Entries column by column: a place that changes is one entry of the matrix that changes.
-use Rattle.std.proofs.Common.{◌≡◌, ℕ, ◌+◌, ◌-◌, ◌*◌, ◌/◌, ◌%◌, ◌^◌, ◌<◌, ◌≤◌, true, false, cond, ◌&&◌, eqb, leb, Option, Some, None, sym, ap, ◌∙◌, ⊎_elim, mul_comm, arith}
+use Rattle.std.proofs.Common.{◌≡◌, ℕ, ◌+◌, ◌-◌, ◌*◌, ◌/◌, ◌%◌, ◌^◌, ◌<◌, ◌≤◌, true, false, cond, ◌&&◌, eqb, leb, List, ◌++◌, length, get_or, Option, Some, None, sym, ap, ◌∙◌, ⊎_elim, mul_comm, arith}
 use lib.Arith.{digits_lt, digits_div, digits_mod}
 use Rattle.std.proofs.lemmas.Bool.{eq-eqb, ne_eqb, cases_Bool, cases_eq, cond-true, cond-false, and_parts, leb-true, eqb-true, and_from, le-leb}
 use Rattle.std.proofs.lemmas.Nat.{mul-le}
+use Rattle.std.proofs.lemmas.List.{get_or_append_left}
 use Rattle.refusal.specs.Outcomes.{accepted}
 use Rattle.matrix.specs.Matrix.{inside, blank, count, one_if_not_zero, put_at, put_into}
 use Rattle.matrix.specs.Layout.{place, place_in, laid}
@@ -100,6 +101,10 @@ laid_blank n k f z = same_entries (blank n k) _ _ (λ r c. ⊎_elim
     (λ (yes' : inside n k r c ≡ true). cond-true (inside n k r c) _ _ yes' ∙ z (place n r c) (place_lt n k r c (is_in n k r c yes')))
     (λ (no' : inside n k r c ≡ false). cond-false (inside n k r c) _ _ no')
     (cases_Bool (inside n k r c)))
+
+-- what a fill of the first places leaves
+pub cleared : (zs rest : List ℕ) (n k : ℕ) → length zs ≡ n → n ≡ k → ((i : ℕ) (d : ℕ) → i < n → get_or zs i d ≡ 0) → (i : ℕ) → i < k → get_or (zs ++ rest) i 0 ≡ 0
+cleared zs rest n k long e z i l = get_or_append_left zs rest 0 i (omega arith) ∙ z i 0 (omega arith)
 
 -- what stands at an entry
 pub laid_at : (n k : ℕ) (f : ℕ → ℕ) (i j : ℕ) → In n k i j → (laid n k f).at i j ≡ f (place n i j)

@@ -1,7 +1,6 @@
 -- What begin comes to in packed codes.
-use Rattle.std.proofs.Common.{◌≡◌, ℕ, ◌*◌, ◌/◌, ◌<◌, ◌≤◌, leb, List, ◌++◌, length, get_or, Err, sym, ap, ◌∙◌, arith}
+use Rattle.std.proofs.Common.{◌≡◌, ℕ, ◌*◌, ◌/◌, ◌<◌, ◌≤◌, leb, List, get_or, Err, sym, ap, ◌∙◌, arith}
 use Rattle.std.proofs.lemmas.Nat.{div_below}
-use Rattle.std.proofs.lemmas.List.{get_or_append_left}
 use Rattle.std.proofs.lemmas.Bool.{cond-true, cond-false, le-leb, lt-leb}
 use Rattle.refusal.specs.declared.Refusal.TheVariants.{ShapeNotTaken}
 use Rattle.refusal.specs.Outcomes.{accepted}
@@ -19,10 +18,6 @@ begin_refused w s n k h l = cond-false (leb (n * k * w) (8 * s)) _ _ (lt-leb _ _
 
 pub begin_accepted : (w s n k : ℕ) → Whole w → bytes_for w (n * k) ≤ s → begin_outcome (dense_terms w s) n k ≡ accepted tt
 begin_accepted w s n k h l = cond-true (leb (n * k * w) (8 * s)) _ _ (le-leb _ _ (bits_hold w (n * k) s h (bytes_hold w (n * k) s h l)))
-
--- what a fill of the first bytes leaves
-pub cleared : (zs rest : List ℕ) (n k : ℕ) → length zs ≡ n → n ≡ k → ((i : ℕ) (d : ℕ) → i < n → get_or zs i d ≡ 0) → (i : ℕ) → i < k → get_or (zs ++ rest) i 0 ≡ 0
-cleared zs rest n k long e z i l = get_or_append_left zs rest 0 i (omega arith) ∙ z i 0 (omega arith)
 
 -- empty bytes are a matrix of zeros
 pub packed_blank : (w n k : ℕ) (xs : List ℕ) → Whole w → ((i : ℕ) → i < bytes_for w (n * k) → get_or xs i 0 ≡ 0) → packed w n k xs ≡ blank n k

@@ -2,10 +2,11 @@
 use Rattle.std.proofs.Common.{◌≡◌, ◌*◌, length, take, drop, sym, refl, ap, ◌∙◌, arith, length-append, length-take, length-drop}
 use Rattle.matrix.specs.Matrix.{blank}
 use Rattle.matrix.specs.Terms.{left_by}
+use Rattle.matrix.proofs.Layouts.{cleared}
 use Rattle.stores.specs.Packed.{bytes_for}
 use Rattle.stores.specs.Dense.{packed, dense_terms}
 use Rattle.stores.proofs.Widths.{bytes_hold}
-use Rattle.stores.proofs.Begins.{begin_refused, begin_accepted, packed_blank, packed_count, cleared}
+use Rattle.stores.proofs.Begins.{begin_refused, begin_accepted, packed_blank, packed_count}
 use Rattle.stores.proofs.dense.DenseStore.begin.Goals as goal
 
 pub returns-then-wanted-self-clause-answer : goal.returns-then-wanted-self-clause-answer

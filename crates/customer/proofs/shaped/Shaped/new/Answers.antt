@@ -1,7 +1,7 @@
 -- The shape 0 by 0 takes no memory and has no entry.
 use Rattle.std.proofs.Common.{sym, arith}
 use Rattle.matrix.proofs.Counts.{count_empty}
-use Rattle.customer.proofs.tall.Tall.new.Goals as goal
+use Rattle.customer.proofs.shaped.Shaped.new.Goals as goal
 
 pub invariant_of-result : goal.invariant_of-result
-invariant_of-result c = record { fits = omega arith; counted = sym (count_empty _) }
+invariant_of-result g c = record { fits = omega arith; counted = sym (count_empty _) }

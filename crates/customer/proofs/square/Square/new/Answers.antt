@@ -1,7 +1,0 @@
--- The side 0 takes no memory and has no entry.
-use Rattle.std.proofs.Common.{sym, arith}
-use Rattle.matrix.proofs.Counts.{count_empty}
-use Rattle.customer.proofs.square.Square.new.Goals as goal
-
-pub invariant_of-result : goal.invariant_of-result
-invariant_of-result c = record { fits = omega arith; counted = sym (count_empty _) }
