@@ -26,8 +26,11 @@ pub(crate) fn cell_at(cells: &[Cell], link: u16) -> Option<Cell>
     requires { link ≤ length cells.now }
     ensures { Leads cells.now link result }
 {
-    let place = link.checked_sub(1)?;
-    Some(cells[place as usize])
+    if link == 0 {
+        None
+    } else {
+        Some(cells[(link - 1) as usize])
+    }
 }
 
 // The link after a cell of the column, or the column's first.
@@ -109,8 +112,9 @@ pub(crate) fn edit(
     ensures heads { heads.new ≡ linked_heads heads.old spot.column spot.before to }
 {
     cells[(link - 1) as usize] = value;
-    match spot.before.checked_sub(1) {
-        Some(place) => cells[place as usize].next = to,
-        None => heads[(spot.column - 1) as usize] = to,
+    if spot.before == 0 {
+        heads[(spot.column - 1) as usize] = to;
+    } else {
+        cells[(spot.before - 1) as usize].next = to;
     }
 }
