@@ -3,7 +3,7 @@ mod Rows
 mod Walks
 mod Found
 mod Readings
-mod Sounds
+mod Locating
 mod Starts
 mod Relinks
 mod Inserts

@@ -160,8 +160,10 @@ module _ {rows columns used free fresh : ℕ} {heads : List ℕ} {cells : List C
         }
 
     -- the entry was counted
-    pub used_from : {heads' : List ℕ} {cells' : List Cell} {n : ℕ} → Put rows columns n a fresh heads heads' cells cells' r c 0 → 1 ≤ used
-    used_from {heads'} {cells'} w = omega (arith, counts rows columns r c 0 cells cells' p w.holds, one_there, s.counted)
+    pub used_from : 1 ≤ used
+    used_from =
+        let here = ap one_if_not_zero (held_in rows columns cells r c p.row_from p.row_to p.column_from p.column_to) in
+        omega (arith, count_put (held rows columns cells) (put_at r c 0) (inside_is rows columns r c p), here, one_there, s.counted)
 
     pub put_replaced : {heads' : List ℕ} {cells' : List Cell} {v : ℕ} → 1 ≤ v → heads' ≡ heads → cells' ≡ set cells (a - 1) (recoded (cell cells (a - 1)) v) → Put rows columns used free fresh heads heads' cells cells' r c v
     put_replaced {heads'} {cells'} {v} some eh ec =

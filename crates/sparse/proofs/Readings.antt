@@ -45,54 +45,14 @@ held_none rows columns cells r c h = ⊎_elim
     (λ (t : inside rows columns r c ≡ false). cond-false (inside rows columns r c) _ _ t)
     (cases_Bool (inside rows columns r c))
 
-pub held_past : (rows columns : ℕ) (cells : List Cell) (r c : ℕ) → (c ≡ 0) ⊎ (columns < c) → (held rows columns cells).at r c ≡ 0
-held_past rows columns cells r c h = cond-false (inside rows columns r c) _ _ (⊎_elim
-    (λ (e : c ≡ 0). grind (arith, nat_tests)) (λ (l : columns < c). grind (arith, nat_tests)) h)
+pub held_past : (rows columns : ℕ) (cells : List Cell) (r c : ℕ) → (1 ≤ c → columns < c) → (held rows columns cells).at r c ≡ 0
+held_past rows columns cells r c h = cond-false (inside rows columns r c) _ _ (grind (arith, nat_tests))
+
+pub held_below : (rows columns : ℕ) (cells : List Cell) (r c : ℕ) → rows < r → (held rows columns cells).at r c ≡ 0
+held_below rows columns cells r c h = cond-false (inside rows columns r c) _ _ (grind (arith, nat_tests))
 
 -- an entry that a cell in use holds is not zero
-held_filled : (rows columns : ℕ) (cells : List Cell) (c k : ℕ) → OneEach cells → Filled cells → RowsTo rows cells → 1 ≤ c → c ≤ columns → 1 ≤ row_at cells k → column_at cells k ≡ c
+pub held_filled : (rows columns : ℕ) (cells : List Cell) (c k : ℕ) → OneEach cells → Filled cells → RowsTo rows cells → 1 ≤ c → c ≤ columns → 1 ≤ row_at cells k → column_at cells k ≡ c
     → (held rows columns cells).at (row_at cells k) c ≡ 0 → ⊥
 held_filled rows columns cells c k one full to a b l e z =
     omega (arith, full k l, sym (found_here cells k one l) ∙ ap (found cells (row_at cells k)) e ∙ sym (held_in rows columns cells (row_at cells k) c l (to k) a b) ∙ z)
-
--- no column outside the shape holds anything
-pub next_none : (rows columns : ℕ) (cells : List Cell) (c start : ℕ) → (c ≡ 0) ⊎ (columns < c) → None ≡ next_in (held rows columns cells) c start
-next_none rows columns cells c start h = next_by (held rows columns cells) c start None (held_outside rows columns cells) (λ i l. held_past rows columns cells i c h)
-
-pub last_none : (rows columns : ℕ) (cells : List Cell) (c end : ℕ) → (c ≡ 0) ⊎ (columns < c) → None ≡ last_in (held rows columns cells) c end
-last_none rows columns cells c end h = last_by (held rows columns cells) c end None (λ i l g. held_past rows columns cells i c h)
-
--- the first row from `start` on is that of the spot's second link
-next_gap : (rows columns : ℕ) (cells : List Cell) (c start r before at i : ℕ) → Spotted cells c r before at → r ≡ max start 1 → start ≤ i → ((at ≡ 0 → ⊥) → i < row_at cells (at - 1)) → (held rows columns cells).at i c ≡ 0
-next_gap rows columns cells c start r before at i s m l h = held_none rows columns cells i c (λ p q. between cells c r before at i s (omega (arith, s.below)) h)
-
-pub next_end : (rows columns : ℕ) (cells : List Cell) (c start r before at : ℕ) → Spotted cells c r before at → r ≡ max start 1 → at ≡ 0 → None ≡ next_in (held rows columns cells) c start
-next_end rows columns cells c start r before at s m z = next_by (held rows columns cells) c start None (held_outside rows columns cells)
-    (λ i l. next_gap rows columns cells c start r before at i s m l (λ d. absurd (d z)))
-
-pub next_some : (rows columns : ℕ) (cells : List Cell) (c start r before at : ℕ) → OneEach cells → Filled cells → RowsTo rows cells → 1 ≤ c → c ≤ columns → Spotted cells c r before at → r ≡ max start 1 → (at ≡ 0 → ⊥)
-    → Some (row_at cells (at - 1)) ≡ next_in (held rows columns cells) c start
-next_some rows columns cells c start r before at one full to a b s m d = next_by (held rows columns cells) c start (Some (row_at cells (at - 1))) (held_outside rows columns cells) (
-  omega (arith, s.reached d),
-  held_filled rows columns cells c (at - 1) one full to a b (omega (arith, s.reached d)) (s.ahead d).0,
-  λ i l g. next_gap rows columns cells c start r before at i s m l (λ _. g),
-)
-
--- the last row up to `end` is that of the first link of the spot past it
-last_gap : (rows columns : ℕ) (cells : List Cell) (c end r before at i : ℕ) → Spotted cells c r before at → r ≡ min end rows + 1 → i ≤ end → row_of cells before < i → (held rows columns cells).at i c ≡ 0
-last_gap rows columns cells c end r before at i s m l h = held_none rows columns cells i c (λ p q. between cells c r before at i s h (λ d. omega (arith, s.reached d)))
-
-pub last_end : (rows columns : ℕ) (cells : List Cell) (c end r before at : ℕ) → Spotted cells c r before at → r ≡ min end rows + 1 → before ≡ 0 → None ≡ last_in (held rows columns cells) c end
-last_end rows columns cells c end r before at s m z = last_by (held rows columns cells) c end None
-    (λ i l g. last_gap rows columns cells c end r before at i s m g (omega (arith, row_of_none cells before z)))
-
-pub last_some : (rows columns : ℕ) (cells : List Cell) (c end r before at : ℕ) → OneEach cells → Filled cells → RowsTo rows cells → 1 ≤ c → c ≤ columns → Spotted cells c r before at → r ≡ min end rows + 1 → (before ≡ 0 → ⊥)
-    → Some (row_at cells (before - 1)) ≡ last_in (held rows columns cells) c end
-last_some rows columns cells c end r before at one full to a b s m d =
-    let is = row_of_some cells before d in
-    last_by (held rows columns cells) c end (Some (row_at cells (before - 1))) (
-      (s.stands d).1,
-      omega (arith, s.below, is),
-      held_filled rows columns cells c (before - 1) one full to a b (s.stands d).1 (s.stands d).0,
-      λ i l g. last_gap rows columns cells c end r before at i s m g (omega (arith, is)),
-    )

@@ -19,10 +19,10 @@ pub held_blank : (rows columns : ℕ) (cells : List Cell) → Unused 0 cells →
 held_blank rows columns cells u = same_entries (blank rows columns) (held rows columns cells).at (λ _ _. 0)
     (λ r c. held_none rows columns cells r c (λ p q. found_none cells r c (λ k e f. omega (arith, u k (omega arith)))))
 
-pub begun_sound : (rows columns : ℕ) (heads : List ℕ) (cells : List Cell) → rows ≤ 65535 → columns ≤ length heads → Unused 0 cells → ((k : ℕ) → k < columns → get_or heads k 0 ≡ 0)
-    → Sound rows columns 0 0 0 heads cells
+pub begun_sound : (rows columns free fresh : ℕ) (heads : List ℕ) (cells : List Cell) → rows ≤ 65535 → columns ≤ length heads → Unused 0 cells → ((k : ℕ) → k < columns → get_or heads k 0 ≡ 0)
+    → free ≡ 0 → fresh ≡ 0 → Sound rows columns 0 free fresh heads cells
 unfolding spare
-begun_sound rows columns heads cells low wide u z = record {
+begun_sound rows columns free fresh heads cells low wide u z ef eh = record {
   low = low;
   wide = wide;
   chained = record {
@@ -35,16 +35,8 @@ begun_sound rows columns heads cells low wide u z = record {
   filled = λ k l. absurd (omega (arith, u k (omega arith)));
   rows_to = λ k. omega (arith, u k (omega arith));
   lent = omega arith;
-  unused = u;
+  unused = λ k l. u k (omega arith);
   begun = omega arith;
-  spared = refl;
+  spared = rw (ef, eh);
   counted = sym (ap count (held_blank rows columns cells u) ∙ count_blank rows columns);
 }
-
--- whether the shape is taken
-pub begin_taken : (cells heads rows columns : ℕ) → rows ≤ 65535 → columns ≤ heads → begin_outcome (sparse_terms cells heads) rows columns ≡ accepted tt
-begin_taken cells heads rows columns a b = cond-true (leb rows 65535 && leb columns heads) _ _ (and_from _ _ (le-leb _ _ a) (le-leb _ _ b))
-
-pub begin_refused : (cells heads rows columns : ℕ) → (65535 < rows) ⊎ (heads < columns) → begin_outcome (sparse_terms cells heads) rows columns ≡ refused (number_of ShapeNotTaken)
-begin_refused cells heads rows columns h = cond-false (leb rows 65535 && leb columns heads) _ _ (⊎_elim
-    (λ (l : 65535 < rows). and_left _ _ (lt-leb _ _ l)) (λ (l : heads < columns). and_right _ _ (lt-leb _ _ l)) h)

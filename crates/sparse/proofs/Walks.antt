@@ -1,8 +1,8 @@
 -- A walk along the chain of a column.
-use Rattle.std.proofs.Common.{◌≡◌, ℕ, ◌-◌, ◌≤◌, cond, eqb, List, get_or, sym, ◌∙◌, subst, ⊎_elim, arith}
+use Rattle.std.proofs.Common.{◌≡◌, ◌≢◌, ℕ, ◌-◌, ◌≤◌, cond, eqb, List, get_or, sym, ◌∙◌, subst, ⊎_elim, arith}
 use Rattle.std.proofs.lemmas.Bool.{cond-true, cond-false, ne_eqb, eq-eqb, cases_eq}
 use Rattle.sparse.specs.declared.cell.Cell.{Cell}
-use Rattle.sparse.specs.Cells.{row_at, column_at, next_at}
+use Rattle.sparse.specs.Cells.{cell, row_at, column_at, next_at}
 use Rattle.sparse.specs.Chains.{row_of, Ahead, Nearest, NextsAhead, NextsNearest, OneEach, Chained, Walkable, Stands}
 use Rattle.sparse.proofs.Rows.{row_of_none, row_of_some}
 
@@ -40,11 +40,11 @@ comes_first cells heads c before at w s e = ⊎_elim
     (cases_eq before 0)
 
 -- one step on
-pub comes_next : (cells : List Cell) (c before at : ℕ) → NextsAhead cells → NextsNearest cells → Ahead cells c (row_of cells before) at → (at ≡ 0 → ⊥) → Comes cells c at (next_at cells (at - 1))
-comes_next cells c before at a n h d =
-    let s : Stands cells c at = λ z. ((h d).0, omega (arith, (h d).1)) in
-    let k = after_cell cells c at a n s d in
-    record { stands = s; ahead = k.0; nearest = k.1 }
+pub comes_next : (cells : List Cell) (c before at : ℕ) (x : Cell) → NextsAhead cells → NextsNearest cells → Comes cells c before at → (at ≢ 0) × (x ≡ cell cells (at - 1)) → Comes cells c at x.next
+comes_next cells c before at x a n w h =
+    let s : Stands cells c at = λ z. ((w.ahead z).0, omega (arith, (w.ahead z).1)) in
+    let k = after_cell cells c at a n s h.0 in
+    rw h.1 (record { stands = s; ahead = k.0; nearest = k.1 })
 
 -- the link leads to the nearest cell of the column past the row
 abbrev pub Follows : List Cell → ℕ → ℕ → ℕ → Type 0

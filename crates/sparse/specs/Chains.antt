@@ -1,7 +1,12 @@
 -- Chains of cells, one to a column, rows rising. A link is a place plus one, and 0 ends a chain.
-use Rattle.std.specs.Prelude.{◌≡◌, ℕ, zero, suc, ◌+◌, ◌-◌, ◌<◌, ◌≤◌, Bool, cond, not, ◌&&◌, List, length, ◌==◌, ◌≢◌, nat_le, slice_index, slice_set}
+use Rattle.std.specs.Prelude.{◌≡◌, ℕ, zero, suc, ◌+◌, ◌-◌, ◌<◌, ◌≤◌, Bool, cond, not, ◌&&◌, List, length, Option, Some, None, ◌==◌, ◌≢◌, nat_le, slice_index, slice_set}
 use Rattle.sparse.specs.declared.cell.Cell.{Cell}
 use Rattle.sparse.specs.Cells.{cell, row_at, column_at, code_at, next_at}
+
+-- the cell that a link leads to, or that it is 0 and ends a chain
+abbrev pub Leads : List Cell → ℕ → Option Cell → Type 0
+Leads cells link None = link ≡ 0
+Leads cells link (Some x) = (link ≢ 0) × (x ≡ cell cells (link - 1))
 
 -- the row that a link leads to, 0 for no cell
 abbrev pub row_of : List Cell → ℕ → ℕ

@@ -1,100 +1,107 @@
-// The edits of one entry of a sparse store, at the spot of its row.
+// The edits of one entry of a sparse store, at its spot.
 ghost use Rattle.std.specs.Prelude.{◌≡◌, ◌<◌, min, length, ◌≢◌};
 ghost use Rattle.matrix.specs.Matrix.{put_at};
 ghost use Rattle.matrix.specs.Terms.{told, put_outcome, put_after};
-ghost use Rattle.sparse.specs.Chains.{Spotted, row_of};
-ghost use Rattle.sparse.specs.Puts.{Place};
-ghost use Rattle.sparse.specs.States.{cells_of, matrix_of, terms_of, Stays, Left};
+ghost use Rattle.sparse.specs.States.{cells_of, entry_at, matrix_of, terms_of, Taken, Inside, Stays, Left};
 
 use crate::cell::Cell;
-use crate::chains::Spot;
+use crate::chains::{Spare, Spot, edit};
 use crate::sparse::Sparse;
 use refusal::Refusal;
 
 impl<'a> Sparse<'a> {
+    // The link to a cell that is not in use, and what is spare once it is.
+    fn idle(&self) -> (u16, Spare)
+        requires { self.now.used < min (length (cells_of self.now)) 65535 }
+        ensures { Taken (cells_of self.now) self.now.spare result.0 result.1 }
+    {
+        let Spare { free, fresh } = self.spare;
+        match self.cell(free) {
+            Some(cell) => {
+                let left = Spare {
+                    free: cell.next,
+                    fresh,
+                };
+                (free, left)
+            }
+            None => {
+                let left = Spare {
+                    free: 0,
+                    fresh: fresh + 1,
+                };
+                (fresh + 1, left)
+            }
+        }
+    }
+
     // Gives an entry that is 0 a cell.
-    fn insert(&mut self, spot: Spot, row: u32, column: u32, code: u16)
-        requires place { Place self.old.rows self.old.columns row column }
-        requires spot { Spotted (cells_of self.old) column row spot.before spot.at }
-        requires none { row_of (cells_of self.old) spot.at ≢ row }
+    fn insert(&mut self, spot: Spot, code: u16)
+        requires spot { Inside self.old spot }
+        requires none { entry_at self.old spot ≡ 0 }
         requires code { code ≢ 0 }
         requires room { self.old.used < min (length (cells_of self.old)) 65535 }
-        ensures { Left self.old self.new row column code }
+        ensures { Left self.old self.new spot code }
     {
-        let taken = self.chains.take(self.free, self.fresh);
+        let (link, spare) = self.idle();
         let cell = Cell {
-            column,
-            row: row as u16,
+            column: spot.column,
+            row: spot.row as u16,
             code,
             next: spot.at,
         };
-        self.chains
-            .edit(column, spot.before, taken.link, cell, taken.link);
+        edit(self.cells, self.heads, spot, link, cell, link);
         self.used += 1;
-        self.free = taken.free;
-        self.fresh = taken.fresh;
+        self.spare = spare;
     }
 
     // Takes the cell of an entry out of use.
-    fn remove(&mut self, spot: Spot, row: u32, column: u32)
-        requires place { Place self.old.rows self.old.columns row column }
-        requires spot { Spotted (cells_of self.old) column row spot.before spot.at }
-        requires there { row_of (cells_of self.old) spot.at ≡ row }
-        ensures { Left self.old self.new row column 0 }
+    fn remove(&mut self, spot: Spot)
+        requires spot { Inside self.old spot }
+        requires there { entry_at self.old spot ≢ 0 }
+        ensures { Left self.old self.new spot 0 }
     {
-        let next = self.chains.cell_at(spot.at).next;
+        let next = self.cells[(spot.at - 1) as usize].next;
         let cell = Cell {
-            column: 0,
-            row: 0,
-            code: 0,
-            next: self.free,
+            next: self.spare.free,
+            ..Cell::default()
         };
-        self.chains.edit(column, spot.before, spot.at, cell, next);
+        edit(self.cells, self.heads, spot, spot.at, cell, next);
         self.used -= 1;
-        self.free = spot.at;
+        self.spare.free = spot.at;
     }
 
     // Changes the code of an entry that has a cell.
-    fn replace(&mut self, spot: Spot, row: u32, column: u32, code: u16)
-        requires place { Place self.old.rows self.old.columns row column }
-        requires spot { Spotted (cells_of self.old) column row spot.before spot.at }
-        requires there { row_of (cells_of self.old) spot.at ≡ row }
+    fn replace(&mut self, spot: Spot, code: u16)
+        requires spot { Inside self.old spot }
+        requires there { entry_at self.old spot ≢ 0 }
         requires code { code ≢ 0 }
-        ensures { Left self.old self.new row column code }
+        ensures { Left self.old self.new spot code }
     {
-        self.chains.recode(spot.at, code);
+        self.cells[(spot.at - 1) as usize].code = code;
     }
 
     // Sets the entry of a spot.
-    pub(crate) fn set(
-        &mut self,
-        spot: Spot,
-        row: u32,
-        column: u32,
-        code: u16,
-    ) -> Result<(), Refusal>
-        requires place { Place self.old.rows self.old.columns row column }
-        requires spot { Spotted (cells_of self.old) column row spot.before spot.at }
-        ensures answer { told result ≡ put_outcome (terms_of self.old) (matrix_of self.old) (put_at row column code) }
-        ensures after { matrix_of self.new ≡ put_after (terms_of self.old) (matrix_of self.old) (put_at row column code) }
-        ensures stays { Stays self.old self.new row column }
+    pub(crate) fn set(&mut self, spot: Spot, code: u16) -> Result<(), Refusal>
+        requires { Inside self.old spot }
+        ensures answer { told result ≡ put_outcome (terms_of self.old) (matrix_of self.old) (put_at spot.row spot.column code) }
+        ensures after { matrix_of self.new ≡ put_after (terms_of self.old) (matrix_of self.old) (put_at spot.row spot.column code) }
+        ensures stays { Stays self.old self.new spot }
     {
-        let old = self.chains.code_if(spot.at, row);
-        if old != 0 {
-            if code == 0 {
-                self.remove(spot, row, column);
-            } else {
-                self.replace(spot, row, column, code);
+        match (self.code(spot), code) {
+            (0, 0) => Ok(()),
+            (0, _) if self.used as usize >= self.cells.len().min(65535) => Err(Refusal::StoreFull),
+            (0, _) => {
+                self.insert(spot, code);
+                Ok(())
             }
-            return Ok(());
+            (_, 0) => {
+                self.remove(spot);
+                Ok(())
+            }
+            _ => {
+                self.replace(spot, code);
+                Ok(())
+            }
         }
-        if code == 0 {
-            return Ok(());
-        }
-        if self.used >= self.chains.limit() {
-            return Err(Refusal::StoreFull);
-        }
-        self.insert(spot, row, column, code);
-        Ok(())
     }
 }

@@ -5,3 +5,4 @@ pub mod cell;
 mod chains;
 mod edits;
 pub mod sparse;
+mod spots;

@@ -1,13 +1,11 @@
 -- Between the two links stands no cell of the column.
 use Rattle.std.proofs.Common.{◌-◌, ◌<◌}
-use Rattle.sparse.specs.Chains.{row_of, Stands, Ahead, Nearest}
+use Rattle.sparse.specs.Chains.{row_of}
+use Rattle.sparse.proofs.Walks.{Comes}
 use Rattle.sparse.proofs.chains.seek.Given as goal
 
-abbrev pub invariant-loop-at : goal.invariant-loop-at
-invariant-loop-at l =
-    Stands l.cells l.column l.before × (row_of l.cells l.before < l.row)
-    × Ahead l.cells l.column (row_of l.cells l.before) l.at
-    × Nearest l.cells l.column (row_of l.cells l.before) l.at
+abbrev pub invariant-loop-cell : goal.invariant-loop-cell
+invariant-loop-cell l = record { comes : Comes l.cells l.column l.before l.at; below : row_of l.cells l.before < l.row }
 
-abbrev pub decreases-loop-at : goal.decreases-loop-at
-decreases-loop-at l = l.row - row_of l.cells l.before
+abbrev pub decreases-loop-cell : goal.decreases-loop-cell
+decreases-loop-cell l = l.row - row_of l.cells l.before

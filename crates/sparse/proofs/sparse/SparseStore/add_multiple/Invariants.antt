@@ -1,14 +1,11 @@
 -- The rows up to one are done, and the links are those that lead on from there.
-use Rattle.std.proofs.Common.{ℕ, length}
-use Rattle.sparse.specs.Cells.{held, sparse_terms}
+use Rattle.std.proofs.Common.{ℕ}
+use Rattle.sparse.specs.States.{cells_of, matrix_of, terms_of}
 use Rattle.sparse.proofs.Merges.{Merging, rows_left}
 use Rattle.sparse.proofs.sparse.SparseStore.add_multiple.Given as goal
 
-abbrev pub invariant-loop-link : goal.invariant-loop-link
-invariant-loop-link g l =
-    let s = l.initial.self in
-    (r : ℕ) × Merging (g.F.Field.arithmetic l.field) l.factor l.from l.to (sparse_terms (length s.chains.cells.now) (length s.chains.heads.now)) (held s.rows s.columns s.chains.cells.now)
-    l.self.rows l.self.columns l.self.chains.heads.now l.self.chains.cells.now l.link l.before r
+abbrev pub invariant-loop-cell : goal.invariant-loop-cell
+invariant-loop-cell g l = (r : ℕ) × Merging (g.F.Field.arithmetic l.field) l.factor l.from l.to (terms_of l.initial.self) (matrix_of l.initial.self) l.self l.link l.before r
 
-abbrev pub decreases-loop-link : goal.decreases-loop-link
-decreases-loop-link g l = rows_left l.self.chains.cells.now l.link
+abbrev pub decreases-loop-cell : goal.decreases-loop-cell
+decreases-loop-cell g l = rows_left (cells_of l.self) l.link
