@@ -1,6 +1,5 @@
 // Number columns: four bytes, spaces and then the digits of 0 to 9999 without leading zeros.
-ghost use Rattle.std.specs.Prelude.{◌≡◌, ◌+◌, ◌<◌, ◌≤◌, length};
-ghost use Rattle.std.proofs.lemmas.List.Edits.{sets};
+ghost use Rattle.std.specs.Prelude.{◌≡◌, ◌<◌};
 ghost use Rattle.text.specs.Columns.{lead, last, lead_of, column};
 ghost use Rattle.text.specs.Reading.{number_first};
 
@@ -55,13 +54,14 @@ fn lead_byte(v: u16) -> u8
     if v == 0 { b' ' } else { b'0' + (v % 10) as u8 }
 }
 
-// Writes the column of `v` at the place `at`.
-pub(crate) fn write_number(out: &mut [u8], at: usize, v: u16)
-    requires { (at + 4 ≤ length out.old) × (v < 10000) }
-    ensures { out.new ≡ sets out.old at (column v) }
+// The column of a number.
+pub(crate) fn column_bytes(v: u16) -> [u8; 4]
+    ensures { result ≡ column v }
 {
-    out[at] = lead_byte(v / 1000);
-    out[at + 1] = lead_byte(v / 100);
-    out[at + 2] = lead_byte(v / 10);
-    out[at + 3] = b'0' + (v % 10) as u8;
+    [
+        lead_byte(v / 1000),
+        lead_byte(v / 100),
+        lead_byte(v / 10),
+        b'0' + (v % 10) as u8,
+    ]
 }
