@@ -6,4 +6,5 @@ pub mod Fences
 pub mod Edges
 pub mod Everyone
 pub mod Judging
+pub mod Numbers
 pub mod Ranges
