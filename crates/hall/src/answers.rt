@@ -1,6 +1,7 @@
 // Why a line comes to nothing, and how surveys, rosters and lists are printed.
 use refusal::Refusal;
 use std::alloc::AllocError;
+use std::num::ParseIntError;
 use std::{fmt, io};
 use survey::plan::Survey;
 use verifier::roster::Roster;
@@ -20,6 +21,12 @@ pub enum Fault {
 impl From<Refusal> for Fault {
     fn from(refusal: Refusal) -> Fault {
         Fault::Refused(refusal)
+    }
+}
+
+impl From<ParseIntError> for Fault {
+    fn from(_error: ParseIntError) -> Fault {
+        Fault::Unknown
     }
 }
 

@@ -11,13 +11,7 @@ pub fn number<T: TryFrom<u64> + Drop>(text: &str, greatest: T) -> Result<T, Faul
 where
     T::Error: Drop,
 {
-    let Ok(number) = text.parse::<u64>() else {
-        return Err(Fault::Unknown);
-    };
-    match T::try_from(number) {
-        Ok(number) => Ok(number),
-        Err(_) => Ok(greatest),
-    }
+    Ok(T::try_from(text.parse::<u64>()?).unwrap_or(greatest))
 }
 
 // Two numbers with a space between.

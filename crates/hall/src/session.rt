@@ -103,9 +103,7 @@ impl Session {
     }
 
     fn write(&self, rt: &HostRuntime, rest: &str) -> Result<(), Fault> {
-        let Ok(length) = rest.parse::<usize>() else {
-            return Err(Fault::Unknown);
-        };
+        let length = rest.parse::<usize>()?;
         let roster = self.roster()?;
         let Ok(mut buffer) = vec![in rt.alloc(); b'#'; length] else {
             return Err(Fault::NoMemory);

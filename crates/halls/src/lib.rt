@@ -4,6 +4,6 @@
 ghost use Rattle.halls.specs.Worked.{WorkedHalls};
 
 // What the definitions give for each of them.
-pub fn worked_halls() -> ()
+pub fn worked_halls()
     ensures { WorkedHalls }
 {}

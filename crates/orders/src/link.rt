@@ -31,6 +31,6 @@ impl ThinningOrder for LinkOrder {
 }
 
 // No candidate has fewer links than the one that is picked, and none with as many has a lower number.
-pub fn link_order_least() -> ()
+pub fn link_order_least()
     ensures { LinkOrderLeast }
 {}

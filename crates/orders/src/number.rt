@@ -17,6 +17,6 @@ impl ThinningOrder for NumberOrder {
 }
 
 // No candidate has a lower number than the one that is picked.
-pub fn number_order_least() -> ()
+pub fn number_order_least()
     ensures { NumberOrderLeast }
 {}

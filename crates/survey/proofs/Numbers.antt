@@ -1,11 +1,15 @@
 -- What the ranges 1..=n and (1..=n).rev() give.
+use denote.Param.Members.{Mut}
+use Rattle.std.specs.declared.iter.Filter.{Filter}
 use Rattle.std.specs.declared.iter.Rev.{Rev}
 use Rattle.std.specs.declared.ops.RangeInclusive.{RangeInclusive}
-use Rattle.std.proofs.Common.{◌≡◌, ℕ, zero, suc, ◌+◌, ◌-◌, Bool, true, false, List, [], ◌∷◌, length, Some, None, Option, sym, refl, ap, ◌∙◌, subst, arith}
+use Rattle.std.proofs.Common.{◌≡◌, ℕ, zero, suc, ◌+◌, ◌-◌, Bool, true, false, List, [], ◌∷◌, length, Some, None, Option, Bor, sym, refl, ap, ◌∙◌, subst, arith}
 use Rattle.std.proofs.iter.runs.Sources.{nat_range_inclusive_steps, nat_range_inclusive_steps_back}
 use Rattle.std.proofs.lemmas.Iterator.{YieldsList}
-use Rattle.std.proofs.lemmas.Iterator.Consumers.{YieldsList-from_shown}
-use Rattle.std.specs.Iterator.Adapters.{rev_source, rev_steps}
+use Rattle.std.proofs.lemmas.Iterator.Consumers.{YieldsList-from_shown, YieldsList-from_filter, YieldsList-at}
+use Rattle.std.specs.Fn.{CalledAt}
+use Rattle.std.specs.Iterator.Adapters.{filter_source, filter_callee, filter_steps, rev_source, rev_steps}
+use Rattle.std.specs.List.{filter}
 use Rattle.std.specs.Range.{range_inclusive_start, range_inclusive_end, range_inclusive_exhausted, range_inclusive_len, range_inclusive_left}
 use Rattle.survey.specs.Lists.{numbers}
 
@@ -39,6 +43,12 @@ YieldsList-from_numbers {s} n a b z =
     let all : count_left s ≡ n = omega (arith, fresh) in
     let e : left s ≡ numbers 1 n = ap (numbers (range_inclusive_start s)) all ∙ ap (λ k. numbers k n) a in
     subst (λ l. YieldsList nat_range_inclusive_steps (λ x. x) s l) e (YieldsList-from_shown nat_range_inclusive_steps (λ x. x) left left_none left_some s)
+
+-- and `(1..=n).filter(..)` those that pass
+pub YieldsList-from_passing : {F : Type 0} {g : Mut F (Bor ℕ × Unit {0}) Bool} {f : F} {s : Filter (RangeInclusive ℕ) F} {range : RangeInclusive ℕ} (p : ℕ → Bool) (n : ℕ)
+    → filter_source s ≡ range → range_inclusive_start range ≡ 1 → range_inclusive_end range ≡ n → range_inclusive_exhausted range ≡ false → filter_callee s ≡ f
+    → ((x : ℕ) (b : Bool) (q : F) → CalledAt g f x b q → (q ≡ f) × (b ≡ p x)) → YieldsList (filter_steps nat_range_inclusive_steps g) (λ x. x) s (filter p (numbers 1 n))
+YieldsList-from_passing {g = g} p n source a b z callee passes = YieldsList-from_filter g p (YieldsList-at source (YieldsList-from_numbers n a b z)) callee passes
 
 -- m, m - 1, .., n of them
 abbrev pub falling : ℕ → ℕ → List ℕ

@@ -7,6 +7,7 @@ use matrix::put::Put;
 use matrix::store::Store;
 use sparse::cell::Cell;
 use sparse::sparse::Sparse;
+use std::iter::successors;
 use std::test::Fail;
 use survey::edge::{Edge, Triangle};
 use text::read::read_survey;
@@ -15,22 +16,18 @@ const HUB: &[u8] =
     b"S   5\nN   1   2   4   5;\nN   2   1   3   5;\nN   3   2   4   5;\nN   4   1   3   5;\nN   5   1   2   3   4;\nF   1   2   3   4;\n";
 
 // How many entries of the grid are not 0, by reading each and by going from one to the next.
-fn nonzero<G: Grid>(grid: &G) -> (u32, u32) {
-    let mut read = 0u32;
-    let mut met = 0u32;
-    for column in 1..6u32 {
-        let mut next = 1u32;
-        for row in 1..13u32 {
-            if grid.entry(row, column) != 0 {
-                read = read.saturating_add(1);
-            }
-            if let Some(found) = grid.next_nonzero(column, next) {
-                met = met.saturating_add(1);
-                next = found.saturating_add(1);
-            } else {
-                next = 13;
-            }
-        }
+fn nonzero<G: Grid>(grid: &G) -> (usize, usize) {
+    let mut read = 0usize;
+    let mut met = 0usize;
+    for column in 1..=5u32 {
+        let here = (1..=12u32)
+            .filter(|row| grid.entry(*row, column) != 0)
+            .count();
+        read = read.saturating_add(here);
+        let steps = successors(grid.next_nonzero(column, 1), |row| {
+            grid.next_nonzero(column, row.saturating_add(1))
+        });
+        met = met.saturating_add(steps.take(13).count());
     }
     (read, met)
 }

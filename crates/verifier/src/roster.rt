@@ -4,7 +4,8 @@ ghost use Rattle.verifier.specs.Sensors.{Fenced};
 use crate::sensor::Sensor;
 use survey::plan::Survey;
 
-// The record of sensor x is `sensors[x]`.
+// The record of sensor x is `sensors[x]`, in a table of fixed size, since there is no heap here.
+// There is no `impl Model`: a set of sensors is a function, and the checker takes no function in a model's value.
 #[derive(Drop)]
 pub struct Roster {
     survey: Survey,
@@ -12,5 +13,6 @@ pub struct Roster {
     ghost fenced: { Fenced survey sensors },
 }
 
+// The methods' contracts import what names the struct, so they stand in files of their own.
 pub mod calls;
 pub mod sets;

@@ -1,9 +1,9 @@
 -- The links are those of the numbers that pass the test.
 use Rattle.std.proofs.Common.{◌∙◌, rules}
-use Rattle.std.proofs.lemmas.Iterator.Consumers.{count_from_yields_List, YieldsList-from_filter, YieldsList-at}
+use Rattle.std.proofs.lemmas.Iterator.Consumers.{count_from_yields_List}
 use Rattle.survey.specs.Plans.{survey_of}
 use Rattle.survey.specs.Surveys.{sensors}
-use Rattle.survey.proofs.Numbers.{YieldsList-from_numbers}
+use Rattle.survey.proofs.Numbers.{YieldsList-from_passing}
 use Rattle.orders.proofs.Chains.{length_gather}
 use Rattle.orders.proofs.link.degree.Goals as goal
 
@@ -12,7 +12,6 @@ returns c =
     let s = survey_of c.args.survey.now in
     let links = s.linked c.args.x in
     count_from_yields_List c.filter.result _ c.count-2.ensures.ran
-    (YieldsList-from_filter _ links
-    (YieldsList-at c.filter.ensures.source (YieldsList-from_numbers s.count c.new.ensures.start (c.new.ensures.end ∙ c.count.ensures.value) c.new.ensures.exhausted))
+    (YieldsList-from_passing links s.count c.filter.ensures.source c.new.ensures.start (c.new.ensures.end ∙ c.count.ensures.value) c.new.ensures.exhausted
     c.filter.ensures.closure (λ x b q k. search rules))
     ∙ length_gather links (sensors s)

@@ -1,7 +1,6 @@
 -- The fold gathers the numbers that pass.
 use Rattle.std.proofs.Common.{◌∙◌, rules}
-use Rattle.std.proofs.lemmas.Iterator.Consumers.{YieldsList-from_filter, YieldsList-at}
-use Rattle.survey.proofs.Numbers.{YieldsList-from_numbers}
+use Rattle.survey.proofs.Numbers.{YieldsList-from_passing}
 use Rattle.verifier.specs.Rosters.{meaning_of, chosen}
 use Rattle.verifier.proofs.Sets.{gathered_by_fold, gathered_all, chosen_outside}
 use Rattle.verifier.proofs.roster.Roster.chosen_set.Goals as goal
@@ -14,7 +13,6 @@ returns c =
     let n = m.survey.count in
     gathered_all m.survey f r.survey.neighbours.most (chosen_outside r c.args.fence) c.fold.result
     (gathered_by_fold c.empty.result c.fold.result c.fold.ensures.ran
-    (YieldsList-from_filter _ f
-    (YieldsList-at c.filter.ensures.source (YieldsList-from_numbers n c.new.ensures.start (c.new.ensures.end ∙ c.count.ensures.value) c.new.ensures.exhausted))
+    (YieldsList-from_passing f n c.filter.ensures.source c.new.ensures.start (c.new.ensures.end ∙ c.count.ensures.value) c.new.ensures.exhausted
     c.filter.ensures.closure (λ x b q k. search rules))
     (λ a x b q k. search rules) c.empty.ensures)
