@@ -21,6 +21,8 @@ pub(crate) struct Reducer<'a, F: Field> {
 impl<'a, F: Field> Reducer<'a, F> {
     // Adds the column `from` to the column `to`, so many times that the entry at the row goes: minus the entry of `to` over
     // that of `from`.
+    // made inline, since as a call it costs some two per cent of a reduction's instructions
+    #[inline(always)]
     pub(crate) fn clear<S: Store>(
         &self,
         store: &mut S,

@@ -7,7 +7,7 @@ use Rattle.matrix.proofs.Puts.{leads_start, leads_by, leads_put, leads_refused, 
 use Rattle.homology.specs.Reduction.{column_puts}
 use Rattle.reduction.specs.Grids.{code_of, codes_of}
 use Rattle.reduction.specs.Rows.{rows_from}
-use Rattle.reduction.proofs.Stores.{stays_itself, stays_on}
+use Rattle.reduction.proofs.Stores.{stays_itself, stays_over}
 use Rattle.reduction.proofs.Turns.{code_zero, puts_in, column_rows, puts_pass, puts_due}
 use Rattle.reduction.proofs.Walks.{rows_all}
 use Rattle.reduction.proofs.reducer.Reducer.load_codes.Goals as goal
@@ -45,7 +45,7 @@ returns-in_err-put g c =
     let due = leads_by t m n (column_puts c.args.self.now.shape.edges A k) _ (p ∷ puts_in A k left) (ap (puts_in A k) c.in-Some.ensures.steps ∙ puts_due A k c.in-Some.row c.code-code.result left code c.if-code-ne0.true) c.loop-row.invariant.2 in
     let e = leads_refused t m n (g.S.Grid.holds c.put.new.self) (column_puts c.args.self.now.shape.edges A k) p (puts_in A k left) c.put.result c.from_residual.result c.in_err-put.field-0.0 x.0 due
     (put.answer ∙ ap (λ u. put_outcome u n p) stays.terms_stay) (put.after ∙ ap (λ u. put_after u n p) stays.terms_stay) c.in_err-put.was x.1 x.2 in
-    record { answer = e.answer; after = e.after; stays = stays_on g.S.Store.terms g.S.Store.backing c.args.store.now c.loop-row.store c.put.new.self stays (record { terms_stay = put.terms; backing_stays = put.backing }) }
+    record { answer = e.answer; after = e.after; stays = stays_over g.S.Store.terms g.S.Store.backing c.args.store.now c.loop-row.store c.put.new.self stays put.terms put.backing }
 
 pub loop-row-preserved : goal.loop-row-preserved
 loop-row-preserved g c =
@@ -81,7 +81,7 @@ loop-row-preserved-in-Continue-1 g c =
       tt,
       leads_put t m n (g.S.Grid.holds c.put.new.self) (column_puts c.args.self.now.shape.edges A k) p (puts_in A k left) c.put.result tt due
           (put.answer ∙ ap (λ u. put_outcome u n p) stays.terms_stay) (put.after ∙ ap (λ u. put_after u n p) stays.terms_stay) c.in_ok-put.was,
-      stays_on g.S.Store.terms g.S.Store.backing c.args.store.now c.loop-row.store c.put.new.self stays (record { terms_stay = put.terms; backing_stays = put.backing }),
+      stays_over g.S.Store.terms g.S.Store.backing c.args.store.now c.loop-row.store c.put.new.self stays put.terms put.backing,
     )
 
 pub returns : goal.returns

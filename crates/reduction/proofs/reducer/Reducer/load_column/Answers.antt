@@ -7,7 +7,7 @@ use Rattle.matrix.specs.Terms.{put_outcome, put_after}
 use Rattle.matrix.proofs.Puts.{leads_start, leads_by, leads_put, leads_refused, leads_end}
 use Rattle.reduction.specs.Grids.{codes_of}
 use Rattle.homology.specs.Reduction.{column_puts}
-use Rattle.reduction.proofs.Stores.{stays_on}
+use Rattle.reduction.proofs.Stores.{stays_over}
 use Rattle.reduction.proofs.Turns.{leads_run, leads_run_refused, column_whole}
 use Rattle.reduction.proofs.reducer.Reducer.load_column.Goals as goal
 
@@ -48,7 +48,7 @@ returns-in_err-put g c =
     let e = leads_refused t m n new _ p [] c.put.result c.from_residual-in_err-put.result c.in_err-put.field-0.0 x.0
     (leads_by t m n _ qs (p ∷ []) (cond-true _ _ _ (le-leb _ _ c.if-column-self.true)) h)
     (put.answer ∙ ap (λ u. put_outcome u n p) made.stays.terms_stay) (put.after ∙ ap (λ u. put_after u n p) made.stays.terms_stay) c.in_err-put.was x.1 x.2 in
-    record { answer = e.answer; after = e.after; stays = stays_on g.S.Store.terms g.S.Store.backing c.args.store.now c.load_codes.new.store c.put.new.self made.stays (record { terms_stay = put.terms; backing_stays = put.backing }) }
+    record { answer = e.answer; after = e.after; stays = stays_over g.S.Store.terms g.S.Store.backing c.args.store.now c.load_codes.new.store c.put.new.self made.stays put.terms put.backing }
 
 pub returns-in_ok-put : goal.returns-in_ok-put
 returns-in_ok-put g c =
@@ -69,7 +69,7 @@ returns-in_ok-put g c =
     let e = leads_end t m new _ [] (leads_put t m n new _ p [] c.put.result tt
     (leads_by t m n _ qs (p ∷ []) (cond-true _ _ _ (le-leb _ _ c.if-column-self.true)) h)
     (put.answer ∙ ap (λ u. put_outcome u n p) made.stays.terms_stay) (put.after ∙ ap (λ u. put_after u n p) made.stays.terms_stay) c.in_ok-put.was) refl in
-    record { answer = e.answer; after = e.after; stays = stays_on g.S.Store.terms g.S.Store.backing c.args.store.now c.load_codes.new.store c.put.new.self made.stays (record { terms_stay = put.terms; backing_stays = put.backing }) }
+    record { answer = e.answer; after = e.after; stays = stays_over g.S.Store.terms g.S.Store.backing c.args.store.now c.load_codes.new.store c.put.new.self made.stays put.terms put.backing }
 
 pub returns-else-column-self : goal.returns-else-column-self
 returns-else-column-self g c =
