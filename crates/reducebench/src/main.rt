@@ -3,59 +3,60 @@
 #![tactic(auto)]
 
 mod runs;
+mod stop;
 
 use field::gf2::Gf2;
 use field::gfp::GfP;
-use runs::{over, refused};
+use runs::{Answer, over};
 use std::{env, fs, io};
-use survey::plan::Survey;
+use stop::Stop;
 use text::read::read_survey;
 
-// Chooses the field.
-fn with_order(
-    rt: &HostRuntime,
-    survey: &Survey,
+// What the command line asks for.
+#[derive(Drop)]
+struct Asked {
+    file: String,
     order: u16,
-    store: &str,
+    store: String,
     times: u32,
-) -> io::Result<()> {
-    if order == 2 {
-        return over(rt, survey, &Gf2, store, times);
-    }
-    match GfP::new(order) {
-        Ok(field) => over(rt, survey, &field, store, times),
-        Err(refusal) => refused(rt, refusal),
-    }
 }
 
-fn usage(rt: &HostRuntime) -> io::Result<()> {
-    println!(rt; "reducebench FILE ORDER STORE TIMES")
+fn read_args(mut args: env::Args) -> Option<Asked> {
+    let _ = args.next();
+    let file = args.next()?;
+    let order = args.next()?.as_str().parse().ok()?;
+    let store = args.next()?;
+    let times = args.next()?.as_str().parse().ok()?;
+    Some(Asked {
+        file,
+        order,
+        store,
+        times,
+    })
+}
+
+// Reads the survey, and chooses the field.
+fn find_answer(rt: &HostRuntime, asked: &Asked) -> Result<Answer, Stop> {
+    let text = fs::read(rt, asked.file.as_str())?;
+    let (survey, _) = read_survey(text.as_slice())?;
+    if asked.order == 2 {
+        return over(rt, &survey, &Gf2, asked.store.as_str(), asked.times);
+    }
+    let field = GfP::new(asked.order)?;
+    over(rt, &survey, &field, asked.store.as_str(), asked.times)
 }
 
 fn main(rt: HostRuntime) -> io::Result<()> {
-    let mut args = env::args(&rt)?;
-    let _ = args.next();
-    let Some(file) = args.next() else {
-        return usage(&rt);
+    let Some(asked) = read_args(env::args(&rt)?) else {
+        return println!(rt; "reducebench FILE ORDER STORE TIMES");
     };
-    let Some(order) = args.next() else {
-        return usage(&rt);
-    };
-    let Some(store) = args.next() else {
-        return usage(&rt);
-    };
-    let Some(times) = args.next() else {
-        return usage(&rt);
-    };
-    let Ok(order) = order.as_str().parse::<u16>() else {
-        return usage(&rt);
-    };
-    let Ok(times) = times.as_str().parse::<u32>() else {
-        return usage(&rt);
-    };
-    let text = fs::read(&rt, file.as_str())?;
-    match read_survey(text.as_slice()) {
-        Ok(found) => with_order(&rt, &found.0, order, store.as_str(), times),
-        Err(refusal) => refused(&rt, refusal),
+    match find_answer(&rt, &asked) {
+        Ok(answer) => println!(rt; "{answer}"),
+        Err(Stop::Refused(refusal)) => {
+            let number = refusal.number();
+            println!(rt; "refused {number}")
+        }
+        Err(Stop::NoSuchStore) => println!(rt; "no such store"),
+        Err(Stop::Failed(error)) => Err(error),
     }
 }

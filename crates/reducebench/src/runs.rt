@@ -1,14 +1,16 @@
 // The runs: the system of a survey with every sensor on, over a field, in a store of either kind.
+use crate::stop::Stop;
 use complex::boundary_grid::BoundaryGrid;
 use complex::listing::{list_edges, list_triangles};
 use field::Field;
+use homology::kind::Kind;
 use matrix::grid::Grid;
 use matrix::store::Store;
 use reduction::solve::{Verdict, solve};
 use refusal::Refusal;
 use sparse::cell::Cell;
 use sparse::sparse::Sparse;
-use std::io;
+use std::fmt;
 use stores::dense::Dense;
 use stores::width::EntryWidth;
 use survey::edge::{Edge, Triangle};
@@ -17,18 +19,40 @@ use survey::plan::Survey;
 // What a survey of the largest size takes: (512 + 1024) rows and 1025 columns.
 const LARGEST: usize = 1536 * 1025;
 
-pub fn refused(rt: &HostRuntime, refusal: Refusal) -> io::Result<()> {
-    let number = refusal.number();
-    println!(rt; "refused {number}")
+// The verdict on so many edges and triangles, and one number for all codes and their order.
+#[derive(Clone, Copy)]
+pub struct Answer {
+    verdict: Verdict,
+    edges: usize,
+    triangles: usize,
+    checksum: u64,
 }
 
-// One number for all codes and their order.
-fn checksum(codes: &[u16], count: usize) -> u64 {
-    let mut sum = 0u64;
-    for code in codes.iter().take(count) {
-        sum = sum.wrapping_mul(31).wrapping_add(*code as u64);
+impl fmt::Display for Answer {
+    fn fmt<W: fmt::Write>(&self, f: &mut fmt::Formatter<W>) -> fmt::Result {
+        let kind = match self.verdict.kind {
+            Kind::Filling => "filling",
+            Kind::Block => "block",
+        };
+        let Answer {
+            verdict,
+            edges,
+            triangles,
+            checksum,
+        } = *self;
+        let additions = verdict.additions;
+        write!(
+            f,
+            "{kind} E {edges} T {triangles} additions {additions} codes {checksum}"
+        )
     }
-    sum
+}
+
+fn checksum(codes: &[u16]) -> u64 {
+    codes.iter().fold(
+        0,
+        |sum: u64, code| sum.wrapping_mul(31).wrapping_add(*code as u64),
+    )
 }
 
 // Solves the system so many times, and once at least; the last verdict counts.
@@ -39,72 +63,48 @@ fn solve_times<F: Field, G: Grid, S: Store>(
     codes: &mut [u16],
     times: u32,
 ) -> Result<Verdict, Refusal> {
-    let mut verdict = solve(field, start, store, codes)?;
     for _ in 1..times {
-        verdict = solve(field, start, store, codes)?;
+        solve(field, start, store, codes)?;
     }
-    Ok(verdict)
+    solve(field, start, store, codes)
 }
 
-// Lists the complex, solves its system, and prints the answer.
+// Lists the complex and solves its system.
 fn run<F: Field, S: Store>(
     rt: &HostRuntime,
     survey: &Survey,
     field: &F,
     store: &mut S,
     times: u32,
-) -> io::Result<()> {
+) -> Result<Answer, Stop> {
     let heap = rt.alloc();
     let on = survey.all();
-    let mut edges = vec![in heap; Edge { a: 0, b: 0 }; survey.link_count() as usize]?;
-    let mut triangles = vec![in heap; Triangle {
+    let mut edge_list = vec![in heap; Edge { a: 0, b: 0 }; survey.link_count() as usize]?;
+    let mut triangle_list = vec![in heap; Triangle {
         a: 0,
         b: 0,
         c: 0
     }; survey.triangle_count() as usize]?;
-    let e = match list_edges(survey, &on, &mut edges) {
-        Ok(e) => e,
-        Err(refusal) => return refused(rt, refusal),
+    let edges = list_edges(survey, &on, &mut edge_list)?;
+    let triangles = list_triangles(survey, &on, &mut triangle_list)?;
+    let mut codes = vec![in heap; 0u16; edges.max(triangles)]?;
+    let start = BoundaryGrid::new(
+        &edge_list,
+        &triangle_list,
+        survey.fence(),
+        field.negative(1),
+    );
+    let verdict = solve_times(field, &start, store, &mut codes, times)?;
+    let count = match verdict.kind {
+        Kind::Filling => triangles,
+        Kind::Block => edges,
     };
-    let t = match list_triangles(survey, &on, &mut triangles) {
-        Ok(t) => t,
-        Err(refusal) => return refused(rt, refusal),
-    };
-    let mut codes = vec![in heap; 0u16; e.max(t)]?;
-    let start = BoundaryGrid::new(&edges, &triangles, survey.fence(), field.negative(1));
-    match solve_times(field, &start, store, &mut codes, times) {
-        Ok(verdict) => {
-            let kind = if verdict.filled { "filling" } else { "block" };
-            let count = if verdict.filled { t } else { e };
-            let sum = checksum(&codes, count);
-            let additions = verdict.additions;
-            println!(rt; "{kind} E {e} T {t} additions {additions} codes {sum}")
-        }
-        Err(refusal) => refused(rt, refusal),
-    }
-}
-
-fn on_sparse<F: Field>(rt: &HostRuntime, survey: &Survey, field: &F, times: u32) -> io::Result<()> {
-    let mut cells = vec![in rt.alloc(); Cell::default(); 65535]?;
-    let mut heads = vec![in rt.alloc(); 0u16; 1025]?;
-    let mut store = Sparse::new(&mut cells, &mut heads);
-    run(rt, survey, field, &mut store, times)
-}
-
-fn on_dense<F: Field>(
-    rt: &HostRuntime,
-    survey: &Survey,
-    field: &F,
-    bits: u32,
-    times: u32,
-) -> io::Result<()> {
-    let width = match EntryWidth::check(bits) {
-        Ok(width) => width,
-        Err(refusal) => return refused(rt, refusal),
-    };
-    let mut bytes = vec![in rt.alloc(); 0u8; LARGEST]?;
-    let mut store = Dense::new(width, &mut bytes);
-    run(rt, survey, field, &mut store, times)
+    Ok(Answer {
+        verdict,
+        edges,
+        triangles,
+        checksum: checksum(&codes[..count]),
+    })
 }
 
 // Chooses the store.
@@ -114,12 +114,22 @@ pub fn over<F: Field>(
     field: &F,
     store: &str,
     times: u32,
-) -> io::Result<()> {
+) -> Result<Answer, Stop> {
     if store == "sparse" {
-        return on_sparse(rt, survey, field, times);
+        let mut cells = vec![in rt.alloc(); Cell::default(); 65535]?;
+        let mut heads = vec![in rt.alloc(); 0u16; 1025]?;
+        return run(
+            rt,
+            survey,
+            field,
+            &mut Sparse::new(&mut cells, &mut heads),
+            times,
+        );
     }
-    match store.parse::<u32>() {
-        Ok(bits) => on_dense(rt, survey, field, bits, times),
-        Err(_) => println!(rt; "no such store"),
-    }
+    let Ok(bits) = store.parse() else {
+        return Err(Stop::NoSuchStore);
+    };
+    let width = EntryWidth::check(bits)?;
+    let mut bytes = vec![in rt.alloc(); 0u8; LARGEST]?;
+    run(rt, survey, field, &mut Dense::new(width, &mut bytes), times)
 }

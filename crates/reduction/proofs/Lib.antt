@@ -1,9 +1,9 @@
 -- Lemmas of the crate, lowest first.
+pub mod Stores
 pub mod Walks
 pub mod Steps
 pub mod Tables
 pub mod Targets
-pub mod Shapes
 pub mod Settling
 pub mod Turns
 pub mod Listing

@@ -1,5 +1,5 @@
 -- Systems with the same shape and the same starting matrix have the same reduction; a grid is read as the system that it starts.
-use Rattle.std.proofs.Common.{◌≡◌, ℕ, ◌+◌, ◌-◌, ◌≤◌, Bool, true, false, cond, ◌&&◌, eqb, ltb, leb, ◌++◌, sym, refl, ap, ◌∙◌, subst, arith}
+use Rattle.std.proofs.Common.{◌≡◌, ℕ, ◌+◌, ◌-◌, ◌≤◌, Bool, true, false, cond, ◌&&◌, eqb, ltb, leb, ◌++◌, refl, ap, ◌∙◌, arith}
 use mathlib.Core.Path.{fun_ext}
 use Rattle.std.proofs.lemmas.Bool.{cond-true, cond_both, lt-ltb, ltb-true, leb-true, and_parts}
 use Rattle.std.proofs.lemmas.Bool.Decides.{nat_tests}
@@ -9,10 +9,11 @@ use Rattle.matrix.specs.Matrix.{Matrix, blank}
 use Rattle.matrix.specs.Terms.{Terms, puts_outcome}
 use Rattle.complex.specs.Systems.{System, starting, starting_matrix}
 use Rattle.homology.specs.Linear.{CodedSystem}
+use Rattle.homology.specs.Kinds.{kind_of, filled_of}
 use Rattle.homology.specs.Certificate.{filling_codes, block_codes}
 use Rattle.homology.specs.Reduction.{low, course, enough, loading, all_puts}
 use Rattle.homology.proofs.Columns.{starting_codes}
-use Rattle.reduction.specs.Grids.{code_of, codes_of, system_of, height_of, width_of}
+use Rattle.reduction.specs.Grids.{code_of, codes_of, shaped, system_of, height_of, width_of}
 use Rattle.reduction.specs.Verdicts.{empty, verdict, answer_codes}
 
 pub record Alike (S U : System) : Type 0 where
@@ -20,8 +21,8 @@ pub record Alike (S U : System) : Type 0 where
   pub columns : S.columns ≡ U.columns
   pub entries : starting S ≡ starting U
 
-pub alike_itself : (S : System) → Alike S S
-alike_itself S = record { rows = refl; columns = refl; entries = refl }
+pub alike_on : (S U V : System) → Alike S U → Alike U V → Alike S V
+alike_on S U V h k = record { rows = h.rows ∙ k.rows; columns = h.columns ∙ k.columns; entries = h.entries ∙ k.entries }
 
 module _ (F : Arithmetic) (S U : System) (h : Alike S U) where
   abbrev p : S.rows ≡ U.rows
@@ -39,20 +40,20 @@ module _ (F : Arithmetic) (S U : System) (h : Alike S U) where
   pub verdict_alike : verdict F S ≡ verdict F U
   verdict_alike = λ i.
       let done = course F (p i) (q i) (enough (q i)) (h.entries i) in
-      record { filled = eqb (low (p i) done.matrix (q i + 1)) 0; additions = done.additions }
+      record { kind = kind_of (eqb (low (p i) done.matrix (q i + 1)) 0); additions = done.additions }
 
   pub codes_alike : answer_codes F S ≡ answer_codes F U
   codes_alike = λ i.
       let N = (course F (p i) (q i) (enough (q i)) (h.entries i)).matrix in
-      cond (eqb (low (p i) N (q i + 1)) 0) (filling_codes F (p i) (q i) N) (block_codes F (p i) (q i) N)
+      cond (filled_of (kind_of (eqb (low (p i) N (q i + 1)) 0))) (filling_codes F (p i) (q i) N) (block_codes F (p i) (q i) N)
 
--- every entry of the system that a grid is read as is a code
+-- every entry of a system that a grid holds is a code
 module _ (F : Arithmetic) (f : FieldLaws F) where
   code_below : (x : ℕ) → Code F (code_of F x)
   code_below x = cond_both _ _ _ (Code F) (λ t. ltb-true x F.order t) (λ _. zero_code F f)
 
-  pub read_coded : (m : Matrix) → CodedSystem F (system_of F m)
-  read_coded m = record { entries = λ r t a b c d. code_below (m.at r t); aims = λ r a b. code_below (m.at r (width_of m + 1)) }
+  pub shaped_coded : (m : Matrix) (E T : ℕ) → CodedSystem F (shaped F m E T)
+  shaped_coded m E T = record { entries = λ r t a b c d. code_below (m.at r t); aims = λ r a b. code_below (m.at r (T + 1)) }
 
   -- a system's starting matrix is read as that system
   module _ (m : Matrix) (S : System) (coded : CodedSystem F S) (is : m ≡ starting_matrix S) where
@@ -87,12 +88,6 @@ module _ (F : Arithmetic) (f : FieldLaws F) where
     pub read_alike : Alike (system_of F m) S
     read_alike = record { rows = same_height; columns = same_width; entries = fun_ext (λ r. fun_ext (λ c. entry_same r c)) }
 
--- The system that a grid is read as, its shape given as equal numbers.
-abbrev pub shaped : Arithmetic → Matrix → ℕ → ℕ → System
-shaped F m E T = record { rows = E; columns = T; matrix = codes_of F m; target = λ r. codes_of F m r (width_of m + 1) }
-
-pub shaped_is : (F : Arithmetic) (m : Matrix) (E T : ℕ) → E ≡ height_of m → T ≡ width_of m → shaped F m E T ≡ system_of F m
-shaped_is F m E T p q = λ i. record { rows = p i; columns = q i; matrix = codes_of F m; target = λ r. codes_of F m r (width_of m + 1) }
-
-pub shaped_coded : (F : Arithmetic) → FieldLaws F → (m : Matrix) (E T : ℕ) → E ≡ height_of m → T ≡ width_of m → CodedSystem F (shaped F m E T)
-shaped_coded F f m E T p q = subst (CodedSystem F) (sym (shaped_is F m E T p q)) (read_coded F f m)
+-- The system of a grid's own shape is the one that it is read as.
+pub shaped_is : (F : Arithmetic) (m : Matrix) (E T : ℕ) → E ≡ height_of m → T ≡ width_of m → Alike (shaped F m E T) (system_of F m)
+shaped_is F m E T p q = record { rows = p; columns = q; entries = λ i. starting (shaped F m (p i) (q i)) }

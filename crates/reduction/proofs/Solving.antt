@@ -12,6 +12,7 @@ use Rattle.matrix.specs.Matrix.{Matrix, blank}
 use Rattle.matrix.specs.Terms.{Terms, left_by, begin_outcome, begin_after, puts_outcome}
 use Rattle.complex.specs.Systems.{System, starting_matrix}
 use Rattle.homology.specs.Linear.{CodedSystem, GivenSolution, GivenSeparator}
+use Rattle.homology.specs.Kinds.{kind_of, filled_of}
 use Rattle.homology.specs.Certificate.{filling_codes, block_codes, vector}
 use Rattle.homology.specs.Reduction.{reduction, all_puts, peak}
 use Rattle.homology.proofs.Ending.{reduction_ends_lem}
@@ -19,12 +20,16 @@ use Rattle.homology.proofs.Listing.{length_listed}
 use Rattle.homology.proofs.ReadOff.{reduction_answers_lem}
 use Rattle.homology.proofs.Room.{peak_refuses_lem}
 use Rattle.reduction.specs.declared.solve.Verdict.{Verdict}
-use Rattle.reduction.specs.Grids.{system_of, height_of, width_of}
+use Rattle.reduction.specs.Grids.{shaped, system_of, height_of, width_of}
 use Rattle.reduction.specs.Verdicts.{empty, small, verdict, answer_codes, solving, codes_after, store_after, Published, Solves, Worked, Works}
-use Rattle.reduction.proofs.Likeness.{Alike, alike_itself, read_coded, read_alike, empty_alike, puts_alike, verdict_alike, codes_alike}
+use Rattle.reduction.proofs.Likeness.{Alike, shaped_coded, shaped_is, read_alike, alike_on, empty_alike, puts_alike, verdict_alike, codes_alike}
 
 same_refusal : {j k : ℕ} → ◌≡◌ {A = Outcome (Unit {0})} (refused j) (refused k) → j ≡ k
 same_refusal e = cc
+
+filled_kind : (b : Bool) → filled_of (kind_of b) ≡ b
+filled_kind true = refl
+filled_kind false = refl
 
 module _ (F : Arithmetic) (f : FieldLaws F) (S : System) (coded : CodedSystem F S) (t : Terms) (old : List ℕ) (m : Matrix) where
   abbrev room : Bool
@@ -76,27 +81,27 @@ module _ (F : Arithmetic) (f : FieldLaws F) (S : System) (coded : CodedSystem F 
     puts_tell : puts_outcome t (empty S) (all_puts F S) ≡ cond fits (accepted tt) (refused (number_of StoreFull))
     puts_tell = peak_refuses_lem F f S coded t (leb-true F.order t.bound q)
 
-    codes_long : length (answer_codes F S) ≡ cond (verdict F S).filled S.columns S.rows
-    codes_long = long (verdict F S).filled
+    codes_long : length (answer_codes F S) ≡ cond (filled_of (verdict F S).kind) S.columns S.rows
+    codes_long = long (filled_of (verdict F S).kind)
       where
         long : (b : Bool) → length (cond b (filling_codes F S.rows S.columns (reduction F S).matrix) (block_codes F S.rows S.columns (reduction F S).matrix)) ≡ cond b S.columns S.rows
         long true = length_listed S.columns _
         long false = length_listed S.rows _
 
     given : (new : List ℕ) → new ≡ answer_codes F S ++ drop (length (answer_codes F S)) old → Published F S (verdict F S) new
-    given new is = record { given = which (verdict F S).filled refl; few = (reduction_ends_lem F f S coded).few }
+    given new is = record { given = which (filled_of (verdict F S).kind) refl; few = (reduction_ends_lem F f S coded).few }
       where
-        which : (b : Bool) → (verdict F S).filled ≡ b → cond b (GivenSolution F S (vector (take S.columns new))) (GivenSeparator F S (vector (take S.rows new)))
+        which : (b : Bool) → filled_of (verdict F S).kind ≡ b → cond b (GivenSolution F S (vector (take S.columns new))) (GivenSeparator F S (vector (take S.rows new)))
         which true e =
             let all : answer_codes F S ≡ filling_codes F S.rows S.columns (reduction F S).matrix = cond-true _ _ _ e in
             let front : take S.columns new ≡ filling_codes F S.rows S.columns (reduction F S).matrix
             = ap (take S.columns) is ∙ take_at (answer_codes F S) _ S.columns (codes_long ∙ cond-true _ _ _ e) ∙ all in
-            subst (λ xs. GivenSolution F S (vector xs)) (sym front) ((reduction_answers_lem F f S coded).filling (eqb-true _ _ e))
+            subst (λ xs. GivenSolution F S (vector xs)) (sym front) ((reduction_answers_lem F f S coded).filling (eqb-true _ _ (sym (filled_kind _) ∙ e)))
         which false e =
             let all : answer_codes F S ≡ block_codes F S.rows S.columns (reduction F S).matrix = cond-false _ _ _ e in
             let front : take S.rows new ≡ block_codes F S.rows S.columns (reduction F S).matrix
             = ap (take S.rows) is ∙ take_at (answer_codes F S) _ S.rows (codes_long ∙ cond-false _ _ _ e) ∙ all in
-            subst (λ xs. GivenSeparator F S (vector xs)) (sym front) ((reduction_answers_lem F f S coded).block (eqb-false _ _ e))
+            subst (λ xs. GivenSeparator F S (vector xs)) (sym front) ((reduction_answers_lem F f S coded).block (eqb-false _ _ (sym (filled_kind _) ∙ e)))
 
     pub solves_worked : (new : List ℕ) (v : Verdict) → Worked F S t old new v → Solves F S t old m (Ok v) new n
     solves_worked new v w = elim (cases_Bool fits) [
@@ -119,73 +124,73 @@ module _ (F : Arithmetic) (f : FieldLaws F) (S : System) (coded : CodedSystem F 
           unchanged (Err e) e new n refl same (outcome_by true true true false p q s full ∙ ap refused number) left_empty
     ]
 
--- The ways in which the code ends, for every system that is alike to the one that the grid is read as.
-module _ (F : Arithmetic) (f : FieldLaws F) (start : Matrix) (t : Terms) (old : List ℕ) (m : Matrix) where
+-- The ways in which the code ends, for every system that is alike to the one of the shape that was found.
+module _ (F : Arithmetic) (f : FieldLaws F) (start : Matrix) (t : Terms) (old : List ℕ) (m : Matrix) (E T : ℕ) where
   abbrev pub Way : Result Verdict Refusal → List ℕ → Matrix → Type 0
-  Way r new n = (U : System) → CodedSystem F U → Alike (system_of F start) U → Solves F U t old m r new n
+  Way r new n = (U : System) → CodedSystem F U → Alike (shaped F start E T) U → Solves F U t old m r new n
 
-  pub way_itself : (r : Result Verdict Refusal) (new : List ℕ) (n : Matrix) → Way r new n → Solves F (system_of F start) t old m r new n
-  way_itself r new n way = way (system_of F start) (read_coded F f start) (alike_itself (system_of F start))
+  -- what solving promises of it, where that shape is the grid's
+  module _ (p : E ≡ height_of start) (q : T ≡ width_of start) (r : Result Verdict Refusal) (new : List ℕ) (n : Matrix) (way : Way r new n) where
+    pub way_itself : Solves F (system_of F start) t old m r new n
+    way_itself = way (system_of F start) (shaped_coded F f start (height_of start) (width_of start)) (shaped_is F start E T p q)
 
-  pub way_systems : (r : Result Verdict Refusal) (new : List ℕ) (n : Matrix) → Way r new n
-      → (U : System) → CodedSystem F U → start ≡ starting_matrix U → Solves F U t old m r new n
-  way_systems r new n way U coded is = way U coded (read_alike F f start U coded is)
+    pub way_systems : (U : System) → CodedSystem F U → start ≡ starting_matrix U → Solves F U t old m r new n
+    way_systems U coded is = way U coded (alike_on (shaped F start E T) (system_of F start) U (shaped_is F start E T p q) (read_alike F f start U coded is))
 
-  module _ (E T : ℕ) (p : E ≡ height_of start) (q : T ≡ width_of start) where
-    pub way_short : length old < max E T → Way (Err TooShort) old m
-    way_short l U coded h = solves_short F f U coded t old m (lt-leb (max U.rows U.columns) (length old) (omega (arith, h.rows, h.columns)))
+  pub way_short : length old < max E T → Way (Err TooShort) old m
+  way_short l U coded h = solves_short F f U coded t old m (lt-leb (max U.rows U.columns) (length old) (omega (arith, h.rows, h.columns)))
 
-    module _ (fit : max E T ≤ length old) where
-      roomy : (U : System) → Alike (system_of F start) U → leb (max U.rows U.columns) (length old) ≡ true
-      roomy U h = le-leb (max U.rows U.columns) (length old) (omega (arith, h.rows, h.columns))
+  module _ (fit : max E T ≤ length old) where
+    roomy : (U : System) → Alike (shaped F start E T) U → leb (max U.rows U.columns) (length old) ≡ true
+    roomy U h = le-leb (max U.rows U.columns) (length old) (omega (arith, h.rows, h.columns))
 
-      pub way_large : t.bound < F.order → Way (Err FieldTooLarge) old m
-      way_large l U coded h = solves_large F f U coded t old m (roomy U h) (lt-leb F.order t.bound l)
+    pub way_large : t.bound < F.order → Way (Err FieldTooLarge) old m
+    way_large l U coded h = solves_large F f U coded t old m (roomy U h) (lt-leb F.order t.bound l)
 
-      module _ (bound : F.order ≤ t.bound) where
-        -- more rows or columns than any survey has
-        pub way_rows : 512 < E → Way (Err ShapeNotTaken) old m
-        way_rows l U coded h =
-            let big : leb U.rows 512 ≡ false = lt-leb U.rows 512 (omega (arith, h.rows)) in
-            solves_shape F f U coded t old m (Err ShapeNotTaken) ShapeNotTaken m refl refl refl (roomy U h) (le-leb F.order t.bound bound)
-            (λ i. big i && leb U.columns 1024 && t.takes (U.rows + U.columns) (U.columns + 1))
+    module _ (bound : F.order ≤ t.bound) where
+      -- more rows or columns than any survey has
+      pub way_rows : 512 < E → Way (Err ShapeNotTaken) old m
+      way_rows l U coded h =
+          let big : leb U.rows 512 ≡ false = lt-leb U.rows 512 (omega (arith, h.rows)) in
+          solves_shape F f U coded t old m (Err ShapeNotTaken) ShapeNotTaken m refl refl refl (roomy U h) (le-leb F.order t.bound bound)
+          (λ i. big i && leb U.columns 1024 && t.takes (U.rows + U.columns) (U.columns + 1))
 
-        pub way_columns : 1024 < T → Way (Err ShapeNotTaken) old m
-        way_columns l U coded h =
-            let big : leb U.columns 1024 ≡ false = lt-leb U.columns 1024 (omega (arith, h.columns)) in
-            solves_shape F f U coded t old m (Err ShapeNotTaken) ShapeNotTaken m refl refl refl (roomy U h) (le-leb F.order t.bound bound)
-            (and_left (leb U.rows 512 && leb U.columns 1024) (t.takes (U.rows + U.columns) (U.columns + 1)) (and_right (leb U.rows 512) (leb U.columns 1024) big))
+      pub way_columns : 1024 < T → Way (Err ShapeNotTaken) old m
+      way_columns l U coded h =
+          let big : leb U.columns 1024 ≡ false = lt-leb U.columns 1024 (omega (arith, h.columns)) in
+          solves_shape F f U coded t old m (Err ShapeNotTaken) ShapeNotTaken m refl refl refl (roomy U h) (le-leb F.order t.bound bound)
+          (and_left (leb U.rows 512 && leb U.columns 1024) (t.takes (U.rows + U.columns) (U.columns + 1)) (and_right (leb U.rows 512) (leb U.columns 1024) big))
 
-        -- the store does not take the shape
-        pub way_shape : (r : Result Verdict Refusal) (e : Refusal) (n : Matrix) → r ≡ Err e → refused (number_of e) ≡ begin_outcome t (E + T) (T + 1) → n ≡ begin_after t m (E + T) (T + 1) → Way r old n
-        way_shape r e n is answer after U coded h = elim (cases_Bool (t.takes (E + T) (T + 1))) [
-          | inl y ↦ absurd (refused_accepted (answer ∙ cond-true _ _ _ y))
-          | inr none ↦
-              let same : t.takes (U.rows + U.columns) (U.columns + 1) ≡ false = (λ i. t.takes (sym (p ∙ h.rows) i + sym (q ∙ h.columns) i) (sym (q ∙ h.columns) i + 1)) ∙ none in
-              solves_shape F f U coded t old m r e n is (same_refusal (sym (answer ∙ cond-false _ _ _ none))) (after ∙ ap (λ o. left_by o (blank (E + T) (T + 1)) m) (cond-false _ _ _ none)) (roomy U h) (le-leb F.order t.bound bound)
-              (and_right (small U) (t.takes (U.rows + U.columns) (U.columns + 1)) same)
-        ]
+      -- the store does not take the shape
+      pub way_shape : (r : Result Verdict Refusal) (e : Refusal) (n : Matrix) → r ≡ Err e → refused (number_of e) ≡ begin_outcome t (E + T) (T + 1) → n ≡ begin_after t m (E + T) (T + 1) → Way r old n
+      way_shape r e n is answer after U coded h = elim (cases_Bool (t.takes (E + T) (T + 1))) [
+        | inl y ↦ absurd (refused_accepted (answer ∙ cond-true _ _ _ y))
+        | inr none ↦
+            let same : t.takes (U.rows + U.columns) (U.columns + 1) ≡ false = (λ i. t.takes (sym h.rows i + sym h.columns i) (sym h.columns i + 1)) ∙ none in
+            solves_shape F f U coded t old m r e n is (same_refusal (sym (answer ∙ cond-false _ _ _ none))) (after ∙ ap (λ o. left_by o (blank (E + T) (T + 1)) m) (cond-false _ _ _ none)) (roomy U h) (le-leb F.order t.bound bound)
+            (and_right (small U) (t.takes (U.rows + U.columns) (U.columns + 1)) same)
+      ]
 
-        -- it was worked out in the shape begun, which is taken again
-        module _ (rows : E ≤ 512) (columns : T ≤ 1024) (begun : accepted tt ≡ begin_outcome t (E + T) (T + 1)) where
-          takes : t.takes (E + T) (T + 1) ≡ true
-          takes = elim (cases_Bool (t.takes (E + T) (T + 1))) [ inl y ↦ y | inr none ↦ absurd (refused_accepted (sym (begun ∙ cond-false _ _ _ none))) ]
+      -- it was worked out in the shape begun, which is taken again
+      module _ (rows : E ≤ 512) (columns : T ≤ 1024) (begun : accepted tt ≡ begin_outcome t (E + T) (T + 1)) where
+        takes : t.takes (E + T) (T + 1) ≡ true
+        takes = elim (cases_Bool (t.takes (E + T) (T + 1))) [ inl y ↦ y | inr none ↦ absurd (refused_accepted (sym (begun ∙ cond-false _ _ _ none))) ]
 
-          pub begun_empty : (k : Matrix) → begin_after t k (E + T) (T + 1) ≡ empty (system_of F start)
-          begun_empty k = ap (λ o. left_by o (blank (E + T) (T + 1)) k) (sym begun) ∙ (λ i. blank (p i + q i) (q i + 1))
+        pub begun_empty : (k : Matrix) → begin_after t k (E + T) (T + 1) ≡ empty (shaped F start E T)
+        begun_empty k = ap (λ o. left_by o (blank (E + T) (T + 1)) k) (sym begun)
 
-          pub way_worked : (r : Result Verdict Refusal) (new : List ℕ) (k n : Matrix) → Works F (system_of F start) t old new r → n ≡ begin_after t k (E + T) (T + 1) → Way r new n
-          way_worked r new k n works after U coded h =
-              let all : (small U && t.takes (U.rows + U.columns) (U.columns + 1)) ≡ true
-              = and_from _ _ (and_from _ _ (le-leb U.rows 512 (omega (arith, h.rows))) (le-leb U.columns 1024 (omega (arith, h.columns))))
-              ((λ i. t.takes (sym (p ∙ h.rows) i + sym (q ∙ h.columns) i) (sym (q ∙ h.columns) i + 1)) ∙ takes) in
-              let cleared : n ≡ empty U = after ∙ begun_empty k ∙ empty_alike F (system_of F start) U h in
-              ended r works (roomy U h) (le-leb F.order t.bound bound) all cleared
-            where
-              ended : (r : Result Verdict Refusal) → Works F (system_of F start) t old new r → room F f U coded t old m ≡ true → large F f U coded t old m ≡ true → taken F f U coded t old m ≡ true → n ≡ empty U → Solves F U t old m r new n
-              ended (Ok v) w a b d e = solves_worked F f U coded t old m a b d n e new v (record {
-                puts = sym (puts_alike F (system_of F start) U h t) ∙ w.puts;
-                is = w.is ∙ verdict_alike F (system_of F start) U h;
-                codes = w.codes ∙ (λ i. codes_alike F (system_of F start) U h i ++ drop (length (codes_alike F (system_of F start) U h i)) old);
-              })
-              ended (Err x) w a b d e = solves_refused F f U coded t old m a b d n e new x (sym (puts_alike F (system_of F start) U h t) ∙ w.0) w.1
+        pub way_worked : (r : Result Verdict Refusal) (new : List ℕ) (k n : Matrix) → Works F (shaped F start E T) t old new r → n ≡ begin_after t k (E + T) (T + 1) → Way r new n
+        way_worked r new k n works after U coded h =
+            let all : (small U && t.takes (U.rows + U.columns) (U.columns + 1)) ≡ true
+            = and_from _ _ (and_from _ _ (le-leb U.rows 512 (omega (arith, h.rows))) (le-leb U.columns 1024 (omega (arith, h.columns))))
+            ((λ i. t.takes (sym h.rows i + sym h.columns i) (sym h.columns i + 1)) ∙ takes) in
+            let cleared : n ≡ empty U = after ∙ begun_empty k ∙ empty_alike F (shaped F start E T) U h in
+            ended r works (roomy U h) (le-leb F.order t.bound bound) all cleared
+          where
+            ended : (r : Result Verdict Refusal) → Works F (shaped F start E T) t old new r → room F f U coded t old m ≡ true → large F f U coded t old m ≡ true → taken F f U coded t old m ≡ true → n ≡ empty U → Solves F U t old m r new n
+            ended (Ok v) w a b d e = solves_worked F f U coded t old m a b d n e new v (record {
+              puts = sym (puts_alike F (shaped F start E T) U h t) ∙ w.puts;
+              is = w.is ∙ verdict_alike F (shaped F start E T) U h;
+              codes = w.codes ∙ (λ i. codes_alike F (shaped F start E T) U h i ++ drop (length (codes_alike F (shaped F start E T) U h i)) old);
+            })
+            ended (Err x) w a b d e = solves_refused F f U coded t old m a b d n e new x (sym (puts_alike F (shaped F start E T) U h t) ∙ w.0) w.1

@@ -6,7 +6,6 @@ use Rattle.refusal.specs.Numbers.{number_of}
 use Rattle.refusal.specs.Outcomes.{Outcome, accepted, refused, and_then}
 use Rattle.field.specs.Arithmetic.{Arithmetic, FieldLaws}
 use Rattle.matrix.specs.Matrix.{Matrix, Entries, Outside, over, played}
-use Rattle.matrix.specs.Multiples.{adding, added_by}
 use Rattle.matrix.specs.Terms.{Terms, told, puts_outcome, puts_after}
 use Rattle.matrix.proofs.Puts.{puts_outcome-++, accepted_played}
 use Rattle.matrix.proofs.Multiples.{adding_adds_lem}
@@ -52,15 +51,15 @@ module _ (F : Arithmetic) (f : FieldLaws F) (E T : ℕ) where
   onward_stops t m n k j e g h = g.puts ∙ h
 
   -- what a store makes of the addition that is due
-  module _ (t : Terms) (m n : Matrix) (k : ℕ) (a : Addition) (x : ℕ) (r : Result (Unit {0}) Refusal)
-      (ready : Ready F E T m k) (out : Outside m) (is_due : due E T m.at ≡ Some a) (is_factor : x ≡ factor F m.at a)
-      (answer : told r ≡ puts_outcome t m (adding F x a.from a.to m.at m.rows))
-      (after : n ≡ puts_after t m (adding F x a.from a.to m.at m.rows)) where
+  module _ (t : Terms) (m n : Matrix) (k : ℕ) (a : Addition) (r : Result (Unit {0}) Refusal)
+      (ready : Ready F E T m k) (out : Outside m) (is_due : due E T m.at ≡ Some a)
+      (answer : told r ≡ puts_outcome t m (addition_puts F m.rows m.at a))
+      (after : n ≡ puts_after t m (addition_puts F m.rows m.at a)) where
     abbrev next : Course
     next = left F E T (k + 1) (added F m.at a)
 
-    puts_are : adding F x a.from a.to m.at m.rows ≡ addition_puts F (E + T) m.at a
-    puts_are = (λ i. adding F (is_factor i) a.from a.to m.at (ready.rows i))
+    puts_are : addition_puts F m.rows m.at a ≡ addition_puts F (E + T) m.at a
+    puts_are = ap (λ R. addition_puts F R m.at a) ready.rows
 
     here : left F E T k m.at ≡ before 1 (addition_puts F (E + T) m.at a) next
     here = left_due m.at k a (due_few m k a ready is_due) is_due
@@ -73,8 +72,7 @@ module _ (F : Arithmetic) (f : FieldLaws F) (E T : ℕ) where
 
     made : (u : Unit {0}) → r ≡ Ok u → n ≡ over m (added F m.at a)
     made u e =
-        after ∙ accepted_played t m (adding F x a.from a.to m.at m.rows) (sym answer ∙ ap told e)
-        ∙ adding_adds_lem F x a.from a.to m out ∙ ap (λ y. over m (added_by F y a.from a.to m.at)) is_factor
+        after ∙ accepted_played t m (addition_puts F m.rows m.at a) (sym answer ∙ ap told e) ∙ adding_adds_lem F (factor F m.at a) a.from a.to m out
 
     pub onward_entries : (u : Unit {0}) → r ≡ Ok u → n.at ≡ added F m.at a
     onward_entries u e = ap (λ k. k.at) (made u e)
@@ -84,7 +82,7 @@ module _ (F : Arithmetic) (f : FieldLaws F) (E T : ℕ) where
         let is = made u e in
         let same : (left F E T k m.at).matrix ≡ (left F E T (k + 1) n.at).matrix = ap (λ c. c.matrix) here ∙ ap (λ M. (left F E T (k + 1) M).matrix) (sym (onward_entries u e)) in
         let moved : played m (addition_puts F (E + T) m.at a) ≡ n
-        = ap (played m) (sym puts_are) ∙ adding_adds_lem F x a.from a.to m out ∙ ap (λ y. over m (added_by F y a.from a.to m.at)) is_factor ∙ sym is in
+        = ap (played m) (sym puts_are) ∙ adding_adds_lem F (factor F m.at a) a.from a.to m out ∙ sym is in
         record {
           ready = record {
             rows = ap (λ k. k.rows) is ∙ ready.rows;

@@ -1,5 +1,5 @@
 -- The table of pivots, column by column: what is due to the next column, and how the table grows.
-use Rattle.std.proofs.Common.{◌≡◌, ℕ, zero, suc, ◌+◌, ◌-◌, ◌<◌, ◌≤◌, cond, eqb, ◌≢◌, List, length, get_or, set, replicate, Some, sym, refl, ap, ◌∙◌, subst, inl, inr, add-one, arith, length-set, get_or-set_other, get_or-set_same}
+use Rattle.std.proofs.Common.{◌≡◌, ℕ, zero, suc, ◌-◌, ◌<◌, ◌≤◌, cond, eqb, ◌≢◌, List, length, get_or, set, replicate, Some, None, Option, sym, refl, ap, ◌∙◌, subst, inl, inr, arith, length-set, get_or-set_other, get_or-set_same}
 use Rattle.std.proofs.lemmas.Bool.{cases_eq, cond-true, eq-eqb, ne_eqb}
 use Rattle.std.proofs.lemmas.Bool.Decides.{nat_tests}
 use Rattle.field.specs.Arithmetic.{Arithmetic, FieldLaws, Code}
@@ -9,7 +9,7 @@ use Rattle.homology.specs.Theorems.{Apart}
 use Rattle.homology.proofs.Due.{what_is_due_lem}
 use Rattle.homology.proofs.Lows.{low_same, low_most, low_above, low_nonzero, owner_cases, owner_same}
 use Rattle.homology.proofs.Additions.{added_other, added_zero, added_clear}
-use Rattle.reduction.specs.Pivots.{Table}
+use Rattle.reduction.specs.Pivots.{Table, unless_zero}
 
 -- columns that stay keep their lows, and so the table
 pub table_same : (E : ℕ) (M N : Entries) (j : ℕ) (table : List ℕ) → ((r c : ℕ) → c ≤ j → N r c ≡ M r c) → Table E M j table → Table E N j table
@@ -26,6 +26,19 @@ pub zeros : (n i : ℕ) → ◌≡◌ {A = ℕ} (get_or (replicate n 0) i 0) 0
 zeros zero i = refl
 zeros (suc n) zero = refl
 zeros (suc n) (suc i) = zeros n i
+
+-- what is behind such a number
+pub told_some : (x o : ℕ) → Some o ≡ unless_zero x → o ≡ x
+told_some zero o e = absurd (cc e)
+told_some (suc x) o e = cc e
+
+pub told_not : (x o : ℕ) → Some o ≡ unless_zero x → o ≢ 0
+told_not zero o e z = absurd (cc e)
+told_not (suc x) o e z = let same : o ≡ suc x = cc e in omega arith
+
+pub told_none : (x : ℕ) → ◌≡◌ {A = Option ℕ} None (unless_zero x) → x ≡ 0
+told_none zero e = refl
+told_none (suc x) e = absurd (cc e)
 
 -- no column yet
 pub table_none : (E : ℕ) (M : Entries) (table : List ℕ) → E < length table → ((i : ℕ) → get_or table i 0 ≡ 0) → Table E M 0 table
@@ -76,56 +89,56 @@ owner_old E M j x d = ap (λ b. cond (eqb (owner E M j x) 0) (cond b (suc j) 0) 
 owner_new : (E : ℕ) (M : Entries) (j x : ℕ) → owner E M j x ≡ 0 → low E M (suc j) ≡ x → owner E M (suc j) x ≡ suc j
 owner_new E M j x none here = cond-true _ _ _ (eq-eqb (owner E M j x) 0 none) ∙ cond-true _ _ _ (eq-eqb (low E M (suc j)) x here)
 
-module _ (E T : ℕ) (M : Entries) (j : ℕ) (table : List ℕ) (pivots : Table E M j table) (e : ℕ) (is_low : e ≡ low E M (j + 1)) where
+module _ (E T : ℕ) (M : Entries) (j c : ℕ) (at : c ≡ suc j) (table : List ℕ) (pivots : Table E M j table) (e : ℕ) (is_low : e ≡ low E M c) where
   pub low_inside : e ≤ E
-  low_inside = omega (arith, low_most M E (j + 1))
+  low_inside = omega (arith, low_most M E c)
 
   -- a low that has an owner is no row 0
   pub low_row : (i : ℕ) → i ≡ get_or table e 0 → i ≢ 0 → 1 ≤ e
   low_row i is d = elim (cases_eq e 0) [ inl z ↦ absurd (d (is ∙ ap (λ e. get_or table e 0) z ∙ pivots.none)) | inr n ↦ omega arith ]
 
   -- the owner of its low is due to the next column
-  pub column_due : (i : ℕ) → j < T → i ≡ get_or table e 0 → i ≢ 0 → due E T M ≡ Some (record { from = i; to = j + 1; row = e })
+  pub column_due : (i : ℕ) → j < T → i ≡ get_or table e 0 → i ≢ 0 → due E T M ≡ Some (record { from = i; to = c; row = e })
   column_due i l is d =
       let o = table_owned E M j table e i pivots (low_row i is d) low_inside is d in
-      let to : low E M i ≡ low E M (suc j) = o.low_is ∙ is_low ∙ ap (low E M) (add-one j) in
+      let to : low E M i ≡ low E M (suc j) = o.low_is ∙ is_low ∙ ap (low E M) at in
       (what_is_due_lem E T M).in_column i j pivots.apart l o.least o.most (omega (arith, o.low_is, low_row i is d)) to
-      ∙ (λ x. Some (record { from = i; to = sym (add-one j) x; row = o.low_is x }))
+      ∙ (λ x. Some (record { from = i; to = sym at x; row = o.low_is x }))
 
   -- a low that nobody has leaves the lows apart, and is entered
   apart_more : get_or table e 0 ≡ 0 → Apart E M (suc j)
   apart_more free i k a b c d q = elim (cases_eq k (suc j)) [
     | inr n ↦ pivots.apart i k a b (omega arith) d q
     | inl s ↦
-        let here : low E M k ≡ e = ap (low E M) (s ∙ sym (add-one j)) ∙ sym is_low in
+        let here : low E M k ≡ e = ap (low E M) (s ∙ sym at) ∙ sym is_low in
         table_free E M j table e pivots (omega arith) low_inside free i a (omega arith) (q ∙ here)
   ]
 
-  pub table_dead : e ≡ 0 → Table E M (j + 1) table
-  table_dead z = subst (λ n. Table E M n table) (sym (add-one j)) (record {
+  pub table_dead : e ≡ 0 → Table E M c table
+  table_dead z = subst (λ n. Table E M n table) (sym at) (record {
     apart = apart_more (ap (λ e. get_or table e 0) z ∙ pivots.none);
     long = pivots.long;
     none = pivots.none;
-    owners = λ x a b. pivots.owners x a b ∙ sym (owner_old E M j x (λ h. omega (arith, ap (low E M) (add-one j))));
+    owners = λ x a b. pivots.owners x a b ∙ sym (owner_old E M j x (λ h. omega (arith, ap (low E M) at)));
   })
 
-  pub table_more : e ≢ 0 → get_or table e 0 ≡ 0 → Table E M (j + 1) (set table e (j + 1))
-  table_more d free = subst (λ n. Table E M n (set table e (j + 1))) (sym (add-one j)) (record {
+  pub table_more : e ≢ 0 → get_or table e 0 ≡ 0 → Table E M c (set table e c)
+  table_more d free = subst (λ n. Table E M n (set table e c)) (sym at) (record {
     apart = apart_more free;
-    long = omega (arith, pivots.long, length-set table e (j + 1));
+    long = omega (arith, pivots.long, length-set table e c);
     none = (let ne : 0 ≢ e = λ h. d (sym h) in rw get_or-set_other pivots.none);
     owners = λ x a b. elim (cases_eq x e) [
       | inl q ↦ entered x q a b
-      | inr ne ↦ rw get_or-set_other (pivots.owners x a b ∙ sym (owner_old E M j x (λ h. ne (sym h ∙ ap (low E M) (sym (add-one j)) ∙ sym is_low))))
+      | inr ne ↦ rw get_or-set_other (pivots.owners x a b ∙ sym (owner_old E M j x (λ h. ne (sym h ∙ ap (low E M) (sym at) ∙ sym is_low))))
     ];
   })
     where
-      entered : (x : ℕ) → x ≡ e → 1 ≤ x → x ≤ E → get_or (set table e (j + 1)) x 0 ≡ owner E M (suc j) x
+      entered : (x : ℕ) → x ≡ e → 1 ≤ x → x ≤ E → get_or (set table e c) x 0 ≡ owner E M (suc j) x
       entered x q a b =
           let inside : e < length table = omega (arith, pivots.long) in
           let none : owner E M j x ≡ 0 = sym (pivots.owners x a b) ∙ ap (λ y. get_or table y 0) q ∙ free in
-          let here : low E M (suc j) ≡ x = ap (low E M) (sym (add-one j)) ∙ sym is_low ∙ sym q in
-          ap (λ y. get_or (set table e (j + 1)) y 0) q ∙ rw get_or-set_same (add-one j ∙ sym (owner_new E M j x none here))
+          let here : low E M (suc j) ≡ x = ap (low E M) (sym at) ∙ sym is_low ∙ sym q in
+          ap (λ y. get_or (set table e c) y 0) q ∙ rw get_or-set_same (at ∙ sym (owner_new E M j x none here))
 
 -- an addition clears its row, and leaves those behind it 0
 module _ (F : Arithmetic) (f : FieldLaws F) (E : ℕ) (M N : Entries) (i c e : ℕ) (codes : (r c : ℕ) → Code F (M r c)) (is : N ≡ added F M (record { from = i; to = c; row = e })) where

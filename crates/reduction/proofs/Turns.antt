@@ -1,5 +1,5 @@
 -- Puts made turn by turn: those still to come, and what loading a column comes to.
-use Rattle.std.proofs.Common.{◌≡◌, ℕ, zero, suc, ◌+◌, ◌-◌, ◌<◌, ◌≤◌, Bool, true, false, cond, ◌&&◌, eqb, ltb, leb, ◌≢◌, List, [], ◌∷◌, ◌++◌, Ok, Err, Result, sym, refl, ap, ◌∙◌, subst, inl, inr, append_assoc, append-nil, add-one, arith}
+use Rattle.std.proofs.Common.{◌≡◌, ℕ, zero, suc, ◌+◌, ◌-◌, ◌≤◌, Bool, true, false, cond, ◌&&◌, eqb, ltb, leb, ◌≢◌, List, [], ◌∷◌, ◌++◌, Ok, Err, Result, sym, refl, ap, ◌∙◌, inl, inr, append_assoc, append-nil, add-one, arith}
 use Rattle.std.proofs.lemmas.Bool.{cases_eq, le-leb, cond-true, cond-false, eq-eqb, ne_eqb}
 use Rattle.std.proofs.lemmas.Bool.Decides.{nat_tests}
 use Rattle.refusal.specs.declared.Refusal.{Refusal}
@@ -8,45 +8,13 @@ use Rattle.refusal.specs.Outcomes.{accepted, refused, and_then}
 use Rattle.field.specs.Arithmetic.{Arithmetic}
 use Rattle.matrix.specs.declared.put.Put.{Put}
 use Rattle.matrix.specs.Matrix.{Matrix, Entries, put_at, played}
-use Rattle.matrix.specs.Terms.{Terms, told, left_by, put_outcome, put_after, puts_outcome, puts_after}
-use Rattle.matrix.proofs.Puts.{Leads, Comes, leads_start, leads_by, leads_put, leads_refused, leads_end, puts_outcome-++, puts_after-++, accepted_played}
+use Rattle.matrix.specs.Terms.{Terms, told, left_by, puts_outcome, puts_after}
+use Rattle.matrix.proofs.Puts.{Leads, Comes, puts_outcome-++, puts_after-++, accepted_played}
 use Rattle.complex.specs.Systems.{starting}
 use Rattle.homology.specs.Reduction.{column_puts, loading}
-use Rattle.reduction.specs.Grids.{code_of, codes_of, system_of, height_of, width_of}
-
--- Puts that come turn by turn: `turn r` after the turns 0 to r - 1.
-module _ (turn : ℕ → List Put) where
-  -- those of d turns from r on
-  abbrev pub from_on : ℕ → ℕ → List Put
-  from_on r zero = []
-  from_on r (suc d) = turn r ++ from_on (suc r) d
-
-  -- those of the first n turns
-  abbrev pub first : ℕ → List Put
-  first zero = []
-  first (suc n) = first n ++ turn n
-
-  first_from : (r d : ℕ) → first (r + d) ≡ first r ++ from_on r d
-  first_from r zero = let at : r + 0 ≡ r = omega arith in ap first at ∙ sym (append-nil (first r))
-  first_from r (suc d) =
-      let at : r + suc d ≡ suc r + d = omega arith in
-      ap first at ∙ first_from (suc r) d ∙ append_assoc (first r) (turn r) (from_on (suc r) d)
-
-  pub from_start : (n : ℕ) → first n ≡ from_on 0 n
-  from_start n = let at : n ≡ 0 + n = omega arith in ap first at ∙ first_from 0 n
-
-  pub from_more : (r n : ℕ) → r < n → from_on r (n - r) ≡ turn r ++ from_on (r + 1) (n - (r + 1))
-  from_more r n l =
-      let at : n - r ≡ suc (n - (r + 1)) = omega arith in
-      ap (from_on r) at ∙ ap (λ x. turn r ++ from_on x (n - (r + 1))) (sym (add-one r))
-
-  -- turns without puts are passed over
-  pub from_skip : (r s n : ℕ) → r ≤ s → s ≤ n → ((i : ℕ) → r ≤ i → i < s → turn i ≡ []) → from_on r (n - r) ≡ from_on s (n - s)
-  from_skip r s n l m h = skip (s - r) r s n (omega arith) m h
-    where
-      skip : (d r s n : ℕ) → s ≡ r + d → s ≤ n → ((i : ℕ) → r ≤ i → i < s → turn i ≡ []) → from_on r (n - r) ≡ from_on s (n - s)
-      skip zero r s n e m h = let q : r ≡ s = omega arith in ap (λ x. from_on x (n - x)) q
-      skip (suc d) r s n e m h = from_more r n (omega arith) ∙ ap (λ ps. ps ++ from_on (r + 1) (n - (r + 1))) (h r (omega arith) (omega arith)) ∙ skip d (r + 1) s n (omega arith) m (λ i a b. h i (omega arith) b)
+use Rattle.reduction.specs.Grids.{code_of, codes_of, shaped}
+use Rattle.reduction.specs.Rows.{nonzero_of}
+use Rattle.reduction.proofs.Walks.{nonzero_last}
 
 pub code_zero : (F : Arithmetic) (x : ℕ) → x ≡ 0 → code_of F x ≡ 0
 code_zero F x z = ap (λ y. cond (ltb x F.order) y 0) z ∙ same (ltb x F.order)
@@ -77,88 +45,79 @@ leads_run_refused t m n new all ps qs r s e x h comes is ends same =
 -- The puts of a column, a turn for each row.
 module _ (A : Entries) (c : ℕ) where
   abbrev pub row_turn : ℕ → List Put
-  row_turn r = cond (eqb (A (suc r) c) 0) [] (put_at (suc r) c (A (suc r) c) ∷ [])
+  row_turn r = cond (eqb (A r c) 0) [] (put_at r c (A r c) ∷ [])
 
-  pub column_first : (n : ℕ) → column_puts n A c ≡ first row_turn n
-  column_first zero = refl
-  column_first (suc n) = ap (λ ps. ps ++ row_turn n) (column_first n)
+  row_none : (r : ℕ) → A r c ≡ 0 → row_turn r ≡ []
+  row_none r z = cond-true _ _ _ (eq-eqb (A r c) 0 z)
 
-  pub row_none : (r : ℕ) → A (suc r) c ≡ 0 → row_turn r ≡ []
-  row_none r z = cond-true _ _ _ (eq-eqb (A (suc r) c) 0 z)
+  row_one : (r : ℕ) → A r c ≢ 0 → row_turn r ≡ put_at r c (A r c) ∷ []
+  row_one r n = cond-false _ _ _ (ne_eqb (A r c) 0 n)
 
-  pub row_one : (r : ℕ) → A (suc r) c ≢ 0 → row_turn r ≡ put_at (suc r) c (A (suc r) c) ∷ []
-  row_one r n = cond-false _ _ _ (ne_eqb (A (suc r) c) 0 n)
+  -- those in the rows of a list
+  abbrev pub puts_in : List ℕ → List Put
+  puts_in [] = []
+  puts_in (r ∷ rs) = row_turn r ++ puts_in rs
 
--- The puts of a matrix, a turn for each column.
-pub loading_first : (R : ℕ) (A : Entries) (n : ℕ) → loading R A n ≡ first (λ c. column_puts R A (suc c)) n
-loading_first R A zero = refl
-loading_first R A (suc n) = ap (λ ps. ps ++ column_puts R A (suc n)) (loading_first R A n)
+  puts_in-++ : (rs qs : List ℕ) → puts_in (rs ++ qs) ≡ puts_in rs ++ puts_in qs
+  puts_in-++ [] qs = refl
+  puts_in-++ (r ∷ rs) qs = ap (λ ps. row_turn r ++ ps) (puts_in-++ rs qs) ∙ sym (append_assoc (row_turn r) (puts_in rs) (puts_in qs))
+
+  -- a row whose code is 0 puts nothing
+  pub puts_pass : (r x : ℕ) (rs : List ℕ) → x ≡ A r c → x ≡ 0 → puts_in (r ∷ rs) ≡ puts_in rs
+  puts_pass r x rs is z = ap (λ ps. ps ++ puts_in rs) (row_none r (sym is ∙ z))
+
+  pub puts_due : (r x : ℕ) (rs : List ℕ) → x ≡ A r c → x ≢ 0 → puts_in (r ∷ rs) ≡ put_at r c x ∷ puts_in rs
+  puts_due r x rs is d = ap (λ ps. ps ++ puts_in rs) (row_one r (λ z. d (is ∙ z))) ∙ ap (λ y. put_at r c y ∷ puts_in rs) (sym is)
+
+  -- the rows at which f is not 0 are enough, if the codes are 0 at the others
+  pub column_rows : (f : ℕ → ℕ) → ((r : ℕ) → f r ≡ 0 → A r c ≡ 0) → (n : ℕ) → column_puts n A c ≡ puts_in (nonzero_of f 1 n)
+  column_rows f zeros zero = refl
+  column_rows f zeros (suc n) =
+      (λ i. column_rows f zeros n i ++ last i)
+      ∙ sym (ap puts_in (nonzero_last f 1 n) ∙ puts_in-++ (nonzero_of f 1 n) _)
+    where
+      at : suc n ≡ 1 + n
+      at = omega arith
+
+      last : row_turn (suc n) ≡ puts_in (cond (eqb (f (1 + n)) 0) [] ((1 + n) ∷ []))
+      last = elim (cases_eq (f (1 + n)) 0) [
+        | inl z ↦ row_none (suc n) (ap (λ r. A r c) at ∙ zeros (1 + n) z) ∙ sym (ap puts_in (cond-true _ _ _ (eq-eqb (f (1 + n)) 0 z)))
+        | inr d ↦ ap row_turn at ∙ sym (append-nil (row_turn (1 + n))) ∙ sym (ap puts_in (cond-false _ _ _ (ne_eqb (f (1 + n)) 0 d)))
+      ]
+
+-- The puts of a matrix, column by column.
+module _ (R : ℕ) (A : Entries) where
+  -- those of d columns from c on
+  abbrev pub columns_on : ℕ → ℕ → List Put
+  columns_on c zero = []
+  columns_on c (suc d) = column_puts R A c ++ columns_on (suc c) d
+
+  columns_from : (c d : ℕ) → loading R A (c + d) ≡ loading R A c ++ columns_on (suc c) d
+  columns_from c zero = let at : c + 0 ≡ c = omega arith in ap (loading R A) at ∙ sym (append-nil (loading R A c))
+  columns_from c (suc d) =
+      let at : c + suc d ≡ suc c + d = omega arith in
+      ap (loading R A) at ∙ columns_from (suc c) d ∙ append_assoc (loading R A c) (column_puts R A (suc c)) (columns_on (suc (suc c)) d)
+
+  pub columns_all : (n : ℕ) → loading R A n ≡ columns_on 1 (n + 1 - 1)
+  columns_all n =
+      let at : n ≡ 0 + n = omega arith in
+      let long : n ≡ n + 1 - 1 = omega arith in
+      ap (loading R A) at ∙ columns_from 0 n ∙ ap (columns_on 1) long
+
+  pub columns_more : (c n : ℕ) → c ≤ n → columns_on c (n + 1 - c) ≡ column_puts R A c ++ columns_on (c + 1) (n + 1 - (c + 1))
+  columns_more c n l =
+      let long : n + 1 - c ≡ suc (n + 1 - (c + 1)) = omega arith in
+      ap (columns_on c) long ∙ ap (λ d. column_puts R A c ++ columns_on d (n + 1 - (c + 1))) (sym (add-one c))
 
 -- equal entries, equal puts
 pub column_same : (n : ℕ) (A B : Entries) (c : ℕ) → ((r : ℕ) → 1 ≤ r → r ≤ n → A r c ≡ B r c) → column_puts n A c ≡ column_puts n B c
 column_same zero A B c h = refl
 column_same (suc n) A B c h = cc (column_same n A B c (λ r a b. h r a (omega arith)), h (suc n) (omega arith) (omega arith))
 
--- Loading the codes of a column, from the row r on.
-module _ (A : Entries) (c n : ℕ) (t : Terms) (m : Matrix) where
-  abbrev Loaded : Matrix → ℕ → Type 0
-  Loaded now r = Leads t m (column_puts n A c) now (from_on (row_turn A c) (r - 1) (n - (r - 1)))
-
-  -- rows that are 0 are passed
-  pub loaded_skip : (now : Matrix) (r s : ℕ) → 1 ≤ r → r ≤ s → s ≤ n + 1 → ((i : ℕ) → r ≤ i → i < s → i ≤ n → A i c ≡ 0) → Loaded now r → Loaded now s
-  loaded_skip now r s a b d zeros h =
-      leads_by t m now _ _ _ (from_skip (row_turn A c) (r - 1) (s - 1) n (omega arith) (omega arith) (λ i l k. row_none A c i (zeros (suc i) (omega arith) (omega arith) (omega arith)))) h
-
-  pub loaded_none : (s : ℕ) → 1 ≤ s → s ≤ n + 1 → ((i : ℕ) → 1 ≤ i → i < s → i ≤ n → A i c ≡ 0) → Loaded m s
-  loaded_none s a b zeros = loaded_skip m 1 s (omega arith) a b zeros (leads_start t m (column_puts n A c) _ (column_first A c n ∙ from_start (row_turn A c) n ∙ (let all : n ≡ n - (1 - 1) = omega arith in ap (from_on (row_turn A c) 0) all)))
-
-  module _ (now : Matrix) (r x : ℕ) (least : 1 ≤ r) (most : r ≤ n) (is : x ≡ A r c) (h : Loaded now r) where
-    at_row : suc (r - 1) ≡ r
-    at_row = omega arith
-
-    next : from_on (row_turn A c) (r - 1) (n - (r - 1)) ≡ row_turn A c (r - 1) ++ from_on (row_turn A c) r (n - r)
-    next =
-        from_more (row_turn A c) (r - 1) n (omega arith)
-        ∙ (let at : r - 1 + 1 ≡ r = omega arith in ap (λ k. row_turn A c (r - 1) ++ from_on (row_turn A c) k (n - k)) at)
-
-    -- the row is 0, or its code is put
-    pub loaded_pass : x ≡ 0 → Leads t m (column_puts n A c) now (from_on (row_turn A c) r (n - r))
-    loaded_pass z = leads_by t m now _ _ _ (next ∙ ap (λ ps. ps ++ from_on (row_turn A c) r (n - r)) (row_none A c (r - 1) (ap (λ k. A k c) at_row ∙ sym is ∙ z))) h
-
-    due_put : x ≢ 0 → Leads t m (column_puts n A c) now (put_at r c x ∷ from_on (row_turn A c) r (n - r))
-    due_put d =
-        leads_by t m now _ _ _
-        (next ∙ ap (λ ps. ps ++ from_on (row_turn A c) r (n - r)) (row_one A c (r - 1) (λ z. d (is ∙ ap (λ k. A k c) (sym at_row) ∙ z)) ∙ (λ i. put_at (at_row i) c ((ap (λ k. A k c) at_row ∙ sym is) i) ∷ [])))
-        h
-
-    pub loaded_put : (new : Matrix) (res : Result (Unit {0}) Refusal) (u : Unit {0}) → x ≢ 0 → told res ≡ put_outcome t now (put_at r c x) → new ≡ put_after t now (put_at r c x) → res ≡ Ok u
-        → Leads t m (column_puts n A c) new (from_on (row_turn A c) r (n - r))
-    loaded_put new res u d answer after was = leads_put t m now new _ (put_at r c x) _ res u (due_put d) answer after was
-
-    pub loaded_refused : (new : Matrix) (res s : Result (Unit {0}) Refusal) (e y : Refusal) → x ≢ 0 → told res ≡ put_outcome t now (put_at r c x) → new ≡ put_after t now (put_at r c x) → res ≡ Err e → s ≡ Err y → y ≡ e
-        → Comes t m (column_puts n A c) s new
-    loaded_refused new res s e y d answer after was ends same = leads_refused t m now new _ (put_at r c x) _ res s e y (due_put d) answer after was ends same
-
-  -- on to the next row
-  pub loaded_on : (now : Matrix) (r s : ℕ) → r ≤ n → r + 1 ≤ s → s ≤ n + 1 → ((i : ℕ) → r + 1 ≤ i → i < s → i ≤ n → A i c ≡ 0)
-      → Leads t m (column_puts n A c) now (from_on (row_turn A c) r (n - r)) → Loaded now s
-  loaded_on now r s a b d zeros h =
-      let at : r ≡ r + 1 - 1 = omega arith in
-      loaded_skip now (r + 1) s (omega arith) b d zeros (subst (λ k. Leads t m (column_puts n A c) now (from_on (row_turn A c) k (n - k))) at h)
-
-  pub loaded_all : (now : Matrix) (r : ℕ) → n < r → r ≤ n + 1 → Loaded now r → Comes t m (column_puts n A c) (Ok tt) now
-  loaded_all now r a b h = let at : n - (r - 1) ≡ 0 = omega arith in leads_end t m now _ _ h (ap (from_on (row_turn A c) (r - 1)) at)
-
 -- A column of the starting matrix: the codes of the grid, then for a column of the system a 1 in its own row.
-module _ (F : Arithmetic) (m : Matrix) where
-  abbrev E : ℕ
-  E = height_of m
-
-  abbrev T : ℕ
-  T = width_of m
-
+module _ (F : Arithmetic) (m : Matrix) (E T : ℕ) where
   abbrev M : Entries
-  M = starting (system_of F m)
+  M = starting (shaped F m E T)
 
   codes_ways : (r c e t x y : ℕ) → 1 ≤ r → r ≤ e → 1 ≤ c → c ≤ t + 1 → (c ≡ t + 1 → y ≡ x)
       → cond (leb 1 r && leb r e && leb 1 c && leb c t) x (cond (leb 1 r && leb r e && eqb c (t + 1)) y (cond (ltb e r && leb r (e + t) && eqb (r - e) c) 1 0)) ≡ x
@@ -174,7 +133,7 @@ module _ (F : Arithmetic) (m : Matrix) where
   abbrev own_put : ℕ → ℕ → List Put
   own_put d c = cond (leb 1 c && leb c d) (put_at (E + c) c 1 ∷ []) []
 
-  own_row : (d c : ℕ) → suc d ≤ T → row_turn M c (E + d) ≡ cond (eqb (suc d) c) (put_at (E + c) c 1 ∷ []) []
+  own_row : (d c : ℕ) → suc d ≤ T → row_turn M c (suc (E + d)) ≡ cond (eqb (suc d) c) (put_at (E + c) c 1 ∷ []) []
   own_row d c l =
       let at : suc (E + d) ≡ E + suc d = omega arith in
       let entry : M (suc (E + d)) c ≡ cond (eqb (suc d) c) 1 0 = ap (λ r. M r c) at ∙ own_ways (suc d) c E T (codes_of F m (E + suc d) c) (codes_of F m (E + suc d) (T + 1)) l (omega arith) in
@@ -182,8 +141,8 @@ module _ (F : Arithmetic) (m : Matrix) where
         | inl q ↦
             let one : M (suc (E + d)) c ≡ 1 = entry ∙ cond-true _ _ _ (eq-eqb (suc d) c q) in
             let here : suc (E + d) ≡ E + c = omega arith in
-            row_one M c (E + d) (omega arith) ∙ (λ i. put_at (here i) c (one i) ∷ []) ∙ sym (cond-true _ _ _ (eq-eqb (suc d) c q))
-        | inr n ↦ row_none M c (E + d) (entry ∙ cond-false _ _ _ (ne_eqb (suc d) c n)) ∙ sym (cond-false _ _ _ (ne_eqb (suc d) c n))
+            row_one M c (suc (E + d)) (omega arith) ∙ (λ i. put_at (here i) c (one i) ∷ []) ∙ sym (cond-true _ _ _ (eq-eqb (suc d) c q))
+        | inr n ↦ row_none M c (suc (E + d)) (entry ∙ cond-false _ _ _ (ne_eqb (suc d) c n)) ∙ sym (cond-false _ _ _ (ne_eqb (suc d) c n))
       ]
 
   own_more : (d c : ℕ) (ps : List Put) → cond (leb 1 c && leb c d) ps [] ++ cond (eqb (suc d) c) ps [] ≡ cond (leb 1 c && leb c (suc d)) ps []
@@ -208,11 +167,10 @@ module _ (F : Arithmetic) (m : Matrix) where
       ap (λ n. column_puts n M c) at ∙ (λ i. before i ++ own_row d c l i)
       ∙ append_assoc (column_puts E M c) (own_put d c) _ ∙ ap (λ ps. column_puts E M c ++ ps) (own_more d c (put_at (E + c) c 1 ∷ []))
 
-  -- in the words of the code that loads a column
-  pub column_whole : (e u c : ℕ) → e ≡ E → u ≡ T → 1 ≤ c → c ≤ u + 1
-      → column_puts (e + u) M c ≡ column_puts e (codes_of F m) c ++ cond (leb c u) (put_at (e + c) c 1 ∷ []) []
-  column_whole e u c p q a b =
+  -- the codes of the column are put first, and then its own row
+  pub column_whole : (c : ℕ) → 1 ≤ c → c ≤ T + 1
+      → column_puts (E + T) M c ≡ column_puts E (codes_of F m) c ++ cond (leb c T) (put_at (E + c) c 1 ∷ []) []
+  column_whole c a b =
       let first : leb 1 c ≡ true = le-leb 1 c a in
-      (λ i. column_puts (p i + q i) M c) ∙ column_own T c (omega arith)
-      ∙ (λ i. sym (column_codes c a (omega arith)) i ++ cond (first i && leb c T) (put_at (E + c) c 1 ∷ []) [])
-      ∙ (λ i. column_puts (sym p i) (codes_of F m) c ++ cond (leb c (sym q i)) (put_at (sym p i + c) c 1 ∷ []) [])
+      column_own T c (omega arith)
+      ∙ (λ i. sym (column_codes c a b) i ++ cond (first i && leb c T) (put_at (E + c) c 1 ∷ []) [])

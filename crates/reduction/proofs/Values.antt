@@ -1,6 +1,6 @@
 -- The values of a block, row by row, and the weighted sums that they are made of.
-use Rattle.std.proofs.Common.{◌≡◌, ℕ, suc, ◌+◌, ◌-◌, ◌<◌, ◌≤◌, cond, eqb, ◌≢◌, List, get_or, sym, refl, ap, ◌∙◌, add-one, arith}
-use Rattle.std.proofs.lemmas.Bool.{cond-true, cond-false, eq-eqb, ne_eqb}
+use Rattle.std.proofs.Common.{◌≡◌, ℕ, zero, suc, ◌+◌, ◌-◌, ◌≤◌, cond, eqb, ◌≢◌, List, [], ◌∷◌, ◌++◌, get_or, sym, refl, ap, ◌∙◌, inl, inr, add-one, arith}
+use Rattle.std.proofs.lemmas.Bool.{cases_eq, cond-true, cond-false, eq-eqb, ne_eqb}
 use Rattle.field.specs.Arithmetic.{Arithmetic, FieldLaws}
 use Rattle.field.proofs.Elements.{product_zero}
 use Rattle.matrix.specs.Matrix.{Entries}
@@ -8,6 +8,8 @@ use Rattle.complex.specs.Systems.{Vector}
 use Rattle.homology.specs.Linear.{total}
 use Rattle.homology.specs.Reduction.{low, owner}
 use Rattle.homology.specs.Certificate.{values, vector}
+use Rattle.reduction.specs.Rows.{nonzero_of}
+use Rattle.reduction.proofs.Walks.{nonzero_last}
 use Rattle.homology.proofs.Totals.{total_front, total_same}
 
 -- column i of N, each row weighted by its value
@@ -15,20 +17,39 @@ module _ (F : Arithmetic) (f : FieldLaws F) (vs : List ℕ) (N : Entries) (i : �
   abbrev pub term : Vector
   term r = F.product (vector vs r) (N r i)
 
+  -- the terms of a list of rows, added in turn
+  abbrev pub sum_in : ℕ → List ℕ → ℕ
+  sum_in s [] = s
+  sum_in s (r ∷ rs) = sum_in (F.sum s (term r)) rs
+
+  sum_in-++ : (s : ℕ) (rs qs : List ℕ) → sum_in s (rs ++ qs) ≡ sum_in (sum_in s rs) qs
+  sum_in-++ s [] qs = refl
+  sum_in-++ s (r ∷ rs) qs = sum_in-++ (F.sum s (term r)) rs qs
+
   -- rows that are 0 add nothing
-  pub weighted_skip : (r s : ℕ) → 1 ≤ r → r ≤ s → ((k : ℕ) → r ≤ k → k < s → N k i ≡ 0) → total F (s - 1) term ≡ total F (r - 1) term
-  weighted_skip r s a b zeros = total_front F f (r - 1) (s - 1) term (omega arith) (λ k l m. ap (F.product (vector vs k)) (zeros k (omega arith) (omega arith)) ∙ product_zero F f (vector vs k))
+  pub sum_rows : (n : ℕ) → sum_in 0 (nonzero_of (λ r. N r i) 1 n) ≡ total F n term
+  sum_rows zero = refl
+  sum_rows (suc n) =
+      let end : List ℕ = cond (eqb (N (1 + n) i) 0) [] ((1 + n) ∷ []) in
+      ap (sum_in 0) (nonzero_last (λ r. N r i) 1 n) ∙ sum_in-++ 0 (nonzero_of (λ r. N r i) 1 n) end ∙ ap (λ s. sum_in s end) (sum_rows n) ∙ last
+    where
+      at : 1 + n ≡ suc n
+      at = omega arith
+
+      last : sum_in (total F n term) (cond (eqb (N (1 + n) i) 0) [] ((1 + n) ∷ [])) ≡ total F (suc n) term
+      last = elim (cases_eq (N (1 + n) i) 0) [
+        | inl z ↦
+            ap (sum_in (total F n term)) (cond-true _ _ _ (eq-eqb (N (1 + n) i) 0 z))
+            ∙ sym (total_front F f n (suc n) term (omega arith) (λ k l m. let here : k ≡ 1 + n = omega arith in ap (F.product (vector vs k)) (ap (λ r. N r i) here ∙ z) ∙ product_zero F f (vector vs k)))
+        | inr d ↦ ap (sum_in (total F n term)) (cond-false _ _ _ (ne_eqb (N (1 + n) i) 0 d)) ∙ ap (λ r. F.sum (total F n term) (term r)) at
+      ]
 
   at_place : (r : ℕ) → 1 ≤ r → vector vs r ≡ get_or vs (r - 1) 0
   at_place r a = let e : r ≡ suc (r - 1) = omega arith in ap (vector vs) e
 
-  pub weighted_more : (r x p y s : ℕ) → 1 ≤ r → x ≡ total F (r - 1) term → y ≡ N r i → p ≡ F.product (get_or vs (r - 1) 0) y → s ≡ F.sum x p → s ≡ total F (r + 1 - 1) term
-  weighted_more r x p y s a is_sum is-entry is-product is =
-      let here : r + 1 - 1 ≡ suc (r - 1) = omega arith in
-      let row : r ≡ suc (r - 1) = omega arith in
-      is ∙ (λ k. F.sum (is_sum k) (is-product k))
-      ∙ ap (λ q. F.sum (total F (r - 1) term) q) (ap (F.product (get_or vs (r - 1) 0)) is-entry ∙ ap (λ v. F.product v (N r i)) (sym (at_place r a)) ∙ ap term row)
-      ∙ ap (λ n. total F n term) (sym here)
+  pub sum_more : (r s p y t : ℕ) (rs : List ℕ) → 1 ≤ r → y ≡ N r i → p ≡ F.product (get_or vs (r - 1) 0) y → t ≡ F.sum s p → sum_in s (r ∷ rs) ≡ sum_in t rs
+  sum_more r s p y t rs a is-entry is-product is =
+      ap (λ x. sum_in x rs) (ap (F.sum s) ((λ k. F.product (at_place r a k) (sym is-entry k)) ∙ sym is-product) ∙ sym is)
 
 module _ (F : Arithmetic) (f : FieldLaws F) (E T : ℕ) (N : Entries) where
   -- the rows before keep their values

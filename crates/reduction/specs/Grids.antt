@@ -20,10 +20,9 @@ height_of m = m.rows - width_of m
 abbrev pub codes_of : Arithmetic → Matrix → Entries
 codes_of F m r c = code_of F (m.at r c)
 
+-- the system of E rows and T columns that a grid holds
+abbrev pub shaped : Arithmetic → Matrix → ℕ → ℕ → System
+shaped F m E T = record { rows = E; columns = T; matrix = codes_of F m; target = λ r. codes_of F m r (T + 1) }
+
 abbrev pub system_of : Arithmetic → Matrix → System
-system_of F m = record {
-  rows = height_of m;
-  columns = width_of m;
-  matrix = codes_of F m;
-  target = λ r. codes_of F m r (width_of m + 1);
-}
+system_of F m = shaped F m (height_of m) (width_of m)

@@ -2,5 +2,6 @@
 pub mod Grids
 pub mod Rows
 pub mod Pivots
+pub mod Stores
 pub mod Progress
 pub mod Verdicts

@@ -1,5 +1,5 @@
 -- The table of pivots: for each row the column that has it as its low.
-use Rattle.std.specs.Prelude.{◌≡◌, ℕ, ◌<◌, ◌≤◌, List, length, slice_index, slice_index_or}
+use Rattle.std.specs.Prelude.{◌≡◌, ℕ, zero, suc, ◌<◌, ◌≤◌, List, Some, None, Option, length, slice_index, slice_index_or}
 use Rattle.matrix.specs.Matrix.{Entries}
 use Rattle.homology.specs.Reduction.{owner}
 use Rattle.homology.specs.Theorems.{Apart}
@@ -10,3 +10,8 @@ pub record Table (E : ℕ) (M : Entries) (j : ℕ) (table : List ℕ) : Type 0 w
   pub long : E < length table
   pub none : slice_index_or table 0 0 ≡ 0
   pub owners : (e : ℕ) → 1 ≤ e → e ≤ E → slice_index table e ≡ owner E M j e
+
+-- a row or a column, where 0 stands for none
+abbrev pub unless_zero : ℕ → Option ℕ
+unless_zero zero = None
+unless_zero (suc n) = Some (suc n)

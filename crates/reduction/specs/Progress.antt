@@ -8,7 +8,7 @@ use Rattle.matrix.specs.Matrix.{Matrix, Entries}
 use Rattle.matrix.specs.Terms.{Terms, puts_outcome}
 use Rattle.homology.specs.Reduction.{Course, low, due, course, enough}
 use Rattle.reduction.specs.declared.columns.Settled.{Settled}
-use Rattle.reduction.specs.Pivots.{Table}
+use Rattle.reduction.specs.Pivots.{Table, unless_zero}
 
 module _ (F : Arithmetic) (E T : ℕ) where
   -- what is left of the reduction of a matrix that took k additions so far
@@ -38,16 +38,16 @@ module _ (F : Arithmetic) (E T : ℕ) where
   abbrev pub Stops : Terms → Matrix → ℕ → Refusal → Type 0
   Stops t m k e = left_outcome t m k ≡ refused (number_of e)
 
-  -- column j + 1 is reduced by those before it, and comes to a low that none of them has
-  pub record ColumnSettled (t : Terms) (m : Matrix) (k j : ℕ) (table : List ℕ) (n : Matrix) (s : Settled) : Type 0 where
+  -- column c is reduced by those before it, and comes to a low that none of them has
+  pub record ColumnSettled (t : Terms) (m : Matrix) (k c : ℕ) (table : List ℕ) (n : Matrix) (s : Settled) : Type 0 where
     pub onward : Onward t m k n s.additions
-    pub pivots : Table E n.at j table
-    pub is_low : s.low ≡ low E n.at (j + 1)
-    pub free : slice_index_or table s.low 0 ≡ 0
+    pub pivots : Table E n.at (c - 1) table
+    pub is_low : s.low ≡ unless_zero (low E n.at c)
+    pub free : slice_index_or table (low E n.at c) 0 ≡ 0
 
   abbrev pub Settles : Terms → Matrix → ℕ → ℕ → List ℕ → Matrix → Result Settled Refusal → Type 0
-  Settles t m k j table n (Ok s) = ColumnSettled t m k j table n s
-  Settles t m k j table n (Err e) = Stops t m k e
+  Settles t m k c table n (Ok s) = ColumnSettled t m k c table n s
+  Settles t m k c table n (Err e) = Stops t m k e
 
   -- the columns 1 to T are reduced
   pub record AllSettled (t : Terms) (m : Matrix) (table : List ℕ) (n : Matrix) (k : ℕ) : Type 0 where

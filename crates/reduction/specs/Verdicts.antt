@@ -10,6 +10,7 @@ use Rattle.matrix.specs.Terms.{Terms, puts_outcome}
 use Rattle.complex.specs.Systems.{System}
 use Rattle.homology.specs.Linear.{GivenSolution, GivenSeparator}
 use Rattle.homology.specs.Reduction.{low, reduction, all_puts, peak, enough}
+use Rattle.homology.specs.Kinds.{kind_of, filled_of}
 use Rattle.homology.specs.Certificate.{filling_codes, block_codes, vector}
 use Rattle.reduction.specs.declared.solve.Verdict.{Verdict}
 
@@ -22,14 +23,14 @@ abbrev pub small : System → Bool
 small S = nat_le S.rows 512 && nat_le S.columns 1024
 
 module _ (F : Arithmetic) (S : System) where
-  -- filled if nothing is left of the target, and how many additions it took
+  -- a filling if nothing is left of the target, and how many additions it took
   abbrev pub verdict : Verdict
-  verdict = record { filled = (low S.rows (reduction F S).matrix (S.columns + 1) == 0); additions = (reduction F S).additions }
+  verdict = record { kind = kind_of (low S.rows (reduction F S).matrix (S.columns + 1) == 0); additions = (reduction F S).additions }
 
   -- the coefficients of a filling, or the values of a block
   abbrev pub answer_codes : List ℕ
   answer_codes =
-      cond verdict.filled
+      cond (filled_of verdict.kind)
       (filling_codes F S.rows S.columns (reduction F S).matrix)
       (block_codes F S.rows S.columns (reduction F S).matrix)
 
@@ -59,7 +60,7 @@ module _ (F : Arithmetic) (S : System) where
 
   -- what is promised of an answer: the codes are the one filling or the one block that is published, by few additions
   pub record Published (v : Verdict) (codes : List ℕ) : Type 0 where
-    pub given : cond v.filled (GivenSolution F S (vector (take S.columns codes))) (GivenSeparator F S (vector (take S.rows codes)))
+    pub given : cond (filled_of v.kind) (GivenSolution F S (vector (take S.columns codes))) (GivenSeparator F S (vector (take S.rows codes)))
     pub few : v.additions ≤ enough S.columns
 
   -- everything that solving in a store of the terms t, which held m, leaves behind

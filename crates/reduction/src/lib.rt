@@ -6,6 +6,7 @@ mod columns;
 mod load;
 mod pivots;
 mod read_off;
+mod reducer;
 mod rows;
 mod shape;
 pub mod solve;

@@ -1,32 +1,38 @@
-// The pivots of the columns that are reduced: which column has a row as its low, and what removes an entry there.
-ghost use Rattle.std.specs.Prelude.{◌≡◌, ◌<◌, length, slice_index, slice_set};
-ghost use Rattle.homology.specs.Reduction.{factor};
+// The pivots of the columns that are reduced: which column has a row as its low.
+ghost use Rattle.std.specs.Prelude.{◌≡◌, ◌<◌, ◌≤◌, replicate, slice_index, slice_set};
+ghost use Rattle.reduction.specs.Pivots.{unless_zero};
 
-use field::Field;
-use matrix::grid::Grid;
-
-// The column that has the row as its low, or 0.
-pub(crate) fn owner_of(table: &[u16], row: u32) -> u32
-    requires { row < length table.now }
-    ensures { result ≡ slice_index table.now row }
-{
-    table[row as usize] as u32
+// For each row up to 512 the column that has it as its low. In the table 0 stands for none, so that its fixed memory is 16
+// bits a row.
+#[derive(Drop)]
+pub(crate) struct Pivots {
+    pub(crate) owners: [u16; 513],
 }
 
-// The column has the row as its low.
-pub(crate) fn own(table: &mut [u16], row: u32, column: u32)
-    requires { (row < length table.old) × (column < 65536) }
-    ensures { table.new ≡ slice_set table.old row column }
-{
-    table[row as usize] = column as u16;
-}
+impl Pivots {
+    // No column yet.
+    pub(crate) fn new() -> Pivots
+        ensures { result.owners ≡ replicate 513 0 }
+    {
+        Pivots { owners: [0; 513] }
+    }
 
-// Minus the entry of the column `to` over that of the column `from`.
-pub(crate) fn quotient<F: Field, G: Grid>(field: &F, grid: &G, row: u32, from: u32, to: u32) -> u16
-    ensures { result ≡ factor (F.Field.arithmetic field.now) (G.Grid.holds grid.now).at (record { from = from; to = to; row = row }) }
-{
-    field.product(
-        field.negative(grid.entry(row, to)),
-        field.inverse(grid.entry(row, from)),
-    )
+    // The column that has the row as its low.
+    pub(crate) fn owner_of(&self, row: u32) -> Option<u32>
+        requires { row ≤ 512 }
+        ensures { result ≡ unless_zero (slice_index self.now.owners row) }
+    {
+        match self.owners[row as usize] {
+            0 => None,
+            column => Some(column as u32),
+        }
+    }
+
+    // The column has the row as its low.
+    pub(crate) fn own(&mut self, row: u32, column: u32)
+        requires { (row ≤ 512) × (column < 65536) }
+        ensures { self.new.owners ≡ slice_set self.old.owners row column }
+    {
+        self.owners[row as usize] = column as u16;
+    }
 }

@@ -2,14 +2,15 @@
 ghost use Rattle.std.specs.Prelude.{◌≡◌, ◌≤◌, length};
 ghost use Rattle.complex.specs.Systems.{System, starting_matrix};
 ghost use Rattle.homology.specs.Linear.{CodedSystem};
-ghost use Rattle.reduction.specs.Grids.{system_of, height_of, width_of};
+ghost use Rattle.reduction.specs.Grids.{system_of, shaped};
+ghost use Rattle.reduction.specs.Stores.{Stays};
 ghost use Rattle.reduction.specs.Verdicts.{empty, Solves, Works};
 
-use crate::columns::{settle_columns, settle_target};
-use crate::load::load;
-use crate::read_off::read_off;
+use crate::pivots::Pivots;
+use crate::reducer::Reducer;
 use crate::shape::Shape;
 use field::Field;
+use homology::kind::Kind;
 use matrix::grid::Grid;
 use matrix::store::Store;
 use refusal::Refusal;
@@ -17,7 +18,7 @@ use refusal::Refusal;
 // Which of the two it is, and how many additions it took.
 #[derive(Clone, Copy, Debug, PartialEq, Eq)]
 pub struct Verdict {
-    pub filled: bool,
+    pub kind: Kind,
     pub additions: u32,
 }
 
@@ -29,20 +30,21 @@ fn work<F: Field, G: Grid, S: Store>(
     shape: Shape,
     codes: &mut [u16],
 ) -> Result<Verdict, Refusal>
-    requires small { (shape.edges ≤ 512) × (shape.triangles ≤ 1024) }
     requires room { (shape.edges ≤ length codes.old) × (shape.triangles ≤ length codes.old) }
-    requires shape { (shape.edges ≡ height_of (G.Grid.holds start.now)) × (shape.triangles ≡ width_of (G.Grid.holds start.now)) }
-    requires begun { S.Grid.holds store.old ≡ empty (system_of (F.Field.arithmetic field.now) (G.Grid.holds start.now)) }
-    ensures works { Works (F.Field.arithmetic field.now) (system_of (F.Field.arithmetic field.now) (G.Grid.holds start.now)) (S.Store.terms store.old) codes.old codes.new result }
-    ensures terms { S.Store.terms store.new ≡ S.Store.terms store.old }
-    ensures backing { S.Store.backing store.new ≡ S.Store.backing store.old }
+    requires begun { S.Grid.holds store.old ≡ empty (shaped (F.Field.arithmetic field.now) (G.Grid.holds start.now) shape.edges shape.triangles) }
+    ensures works { Works (F.Field.arithmetic field.now) (shaped (F.Field.arithmetic field.now) (G.Grid.holds start.now) shape.edges shape.triangles) (S.Store.terms store.old) codes.old codes.new result }
+    ensures stays { Stays S.Store.terms S.Store.backing store.old store.new }
 {
-    load(field, start, store, shape)?;
-    let mut table = [0u16; 513];
-    let first = settle_columns(field, store, &mut table, shape)?;
-    let additions = settle_target(field, store, &table, shape, first)?;
-    let filled = read_off(field, store, &table, shape, codes);
-    Ok(Verdict { filled, additions })
+    let mut reducer = Reducer {
+        field,
+        shape,
+        pivots: Pivots::new(),
+    };
+    reducer.load(start, store)?;
+    let first = reducer.settle_columns(store)?;
+    let additions = reducer.settle_target(store, first)?;
+    let kind = reducer.read_off(store, codes);
+    Ok(Verdict { kind, additions })
 }
 
 // Solves the system that a grid starts from, in the store, and writes the filling or the block to the front of `codes`. The

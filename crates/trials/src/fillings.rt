@@ -1,4 +1,5 @@
 // The hub's lists and starting matrix, and one filling on stores of each kind.
+use crate::halls::HUB;
 use complex::boundary_grid::BoundaryGrid;
 use complex::listing::{list_edges, list_triangles};
 use customer::fill::{fill, fill_dense};
@@ -11,9 +12,6 @@ use std::iter::successors;
 use std::test::Fail;
 use survey::edge::{Edge, Triangle};
 use text::read::read_survey;
-
-const HUB: &[u8] =
-    b"S   5\nN   1   2   4   5;\nN   2   1   3   5;\nN   3   2   4   5;\nN   4   1   3   5;\nN   5   1   2   3   4;\nF   1   2   3   4;\n";
 
 // How many entries of the grid are not 0, by reading each and by going from one to the next.
 fn nonzero<G: Grid>(grid: &G) -> (usize, usize) {

@@ -4,6 +4,8 @@
 #[cfg(test)]
 mod fillings;
 #[cfg(test)]
+mod halls;
+#[cfg(test)]
 mod reductions;
 
 #[cfg(test)]

@@ -1,8 +1,10 @@
 // The hub solved over GF(3) in each kind of store, and in one that is full before the end.
+use crate::halls::HUB;
 use complex::boundary_grid::BoundaryGrid;
 use complex::listing::{list_edges, list_triangles};
 use customer::tall::Tall;
 use field::gfp::GfP;
+use homology::kind::Kind;
 use matrix::grid::Grid;
 use matrix::store::Store;
 use reduction::solve::{Verdict, solve};
@@ -15,9 +17,6 @@ use stores::dense::Dense;
 use stores::width::EntryWidth;
 use survey::edge::{Edge, Triangle};
 use text::read::read_survey;
-
-const HUB: &[u8] =
-    b"S   5\nN   1   2   4   5;\nN   2   1   3   5;\nN   3   2   4   5;\nN   4   1   3   5;\nN   5   1   2   3   4;\nF   1   2   3   4;\n";
 
 // What solving the hub comes to in the store; nine places for codes, of which the ninth is beyond.
 fn solved<S: Store>(store: &mut S, codes: &mut [u16; 9]) -> Result<Verdict, Refusal> {
@@ -36,7 +35,7 @@ fn solved<S: Store>(store: &mut S, codes: &mut [u16; 9]) -> Result<Verdict, Refu
 fn is_solved<S: Store>(rt: &impl Abort, store: &mut S) -> Result<(), Fail> {
     let mut codes = [7u16; 9];
     let verdict = solved(store, &mut codes)?;
-    assert_eq!(rt; verdict.filled, true);
+    assert_eq!(rt; verdict.kind, Kind::Filling);
     assert_eq!(rt; verdict.additions, 4);
     assert_eq!(rt; codes, [1, 2, 1, 1, 7, 7, 7, 7, 7]);
     is_empty(rt, store);
