@@ -23,7 +23,7 @@ enum Operation {
 }
 
 // Any other word is a filling alone.
-fn operation(word: &str) -> Operation {
+fn named(word: &str) -> Operation {
     match word {
         "begin" => Operation::Begin,
         "add" => Operation::Add,
@@ -83,17 +83,19 @@ fn dense(rt: &HostRuntime, what: Operation, size: u32) -> io::Result<Result<u64,
     Ok(on_dense(&mut bytes, what, size))
 }
 
-// The operation and the size that the words name.
-fn asked<I: Iterator<Item = String> + Drop>(mut words: I) -> Option<(Operation, u32)> {
-    let what = operation(words.next()?.as_str());
-    let size = words.next()?.as_str().parse::<u32>().ok()?;
-    Some((what, size))
-}
-
 fn main(rt: HostRuntime) -> io::Result<()> {
-    let Some((what, size)) = asked(env::args(&rt)?.skip(1)) else {
+    let mut args = env::args(&rt)?;
+    let _ = args.next();
+    let Some(what) = args.next() else {
         return println!(rt; "storebench WHAT SIZE");
     };
+    let Some(text) = args.next() else {
+        return println!(rt; "storebench WHAT SIZE");
+    };
+    let Ok(size) = text.as_str().parse::<u32>() else {
+        return println!(rt; "storebench WHAT SIZE");
+    };
+    let what = named(what.as_str());
     let outcome = match what {
         Operation::Dense | Operation::Next => dense(&rt, what, size)?,
         _ => sparse(&rt, what, size)?,
