@@ -1,4 +1,3 @@
 -- Lemmas of the crate; those for other crates are `pub mod`.
 mod Writes
 mod Shapes
-mod Fillings

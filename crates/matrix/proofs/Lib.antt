@@ -2,7 +2,6 @@
 pub mod Matrices
 pub mod Counts
 pub mod Nonzeros
-mod Searches
 pub mod Puts
 pub mod Multiples
 pub mod Layouts

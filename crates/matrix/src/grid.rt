@@ -24,15 +24,24 @@ pub trait Grid {
     fn next_nonzero(&self, column: u32, first: u32) -> Option<u32>
         ensures { result ≡ next_in (holds self.now) column first }
     {
-        (first..=self.rows()).find(|row| self.entry(*row, column) != 0)
+        // A `for`, here and below, since `find` costs the dense reduction up to half more instructions.
+        for row in first..=self.rows() {
+            if self.entry(row, column) != 0 {
+                return Some(row);
+            }
+        }
+        None
     }
 
     // The last row of the column, up to a row, whose entry is not 0.
     fn last_nonzero(&self, column: u32, last: u32) -> Option<u32>
         ensures { result ≡ last_in (holds self.now) column last }
     {
-        (1..=last.min(self.rows()))
-            .rev()
-            .find(|row| self.entry(*row, column) != 0)
+        for row in (1..=last.min(self.rows())).rev() {
+            if self.entry(row, column) != 0 {
+                return Some(row);
+            }
+        }
+        None
     }
 }

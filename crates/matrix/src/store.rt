@@ -54,6 +54,7 @@ pub trait Store: Grid {
         ensures terms { terms self.new ≡ terms self.old }
         ensures backing { backing self.new ≡ backing self.old }
     {
+        // Not a `for` over the rows: a store finds its next nonzero row faster than row by row, and after the last there is no `done + 1`.
         let mut done = 0;
         while done < self.rows() {
             let Some(row) = self.next_nonzero(from, done + 1) else {

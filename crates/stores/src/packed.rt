@@ -28,8 +28,13 @@ fn first_nonzero(bytes: &[u8], start: usize, end: usize) -> Option<usize>
     requires { (start ≤ end) × (end ≤ length bytes.now) }
     ensures { Scanned (λ i. slice_index bytes.now i) start end result }
 {
-    let found = bytes[start..end].iter().position(|byte| *byte != 0)?;
-    Some(start + found)
+    // A `for`, since `position` in the part costs the dense reduction a tenth more instructions.
+    for at in start..end {
+        if bytes[at] != 0 {
+            return Some(at);
+        }
+    }
+    None
 }
 
 // The first place from `start` on, before `end`, whose code is not 0. It passes empty bytes whole.
@@ -38,6 +43,7 @@ pub(crate) fn scan(bytes: &[u8], width: EntryWidth, start: usize, end: usize) ->
     ensures { Scanned (code_at width.bits bytes.now) start end result }
 {
     let per = width.per_byte() as usize;
+    // A `while`, since it goes on by a place or by whole bytes.
     let mut place = start;
     while place < end {
         let byte = bytes[place / per];

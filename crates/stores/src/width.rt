@@ -5,6 +5,7 @@ ghost use Rattle.stores.specs.Packed.{entry_width, per_byte_of};
 
 use refusal::Refusal;
 
+// A number and no enum of four, since codes are shifted and bytes divided by it.
 #[derive(Clone, Copy)]
 pub struct EntryWidth {
     bits: u32,
