@@ -45,6 +45,7 @@ impl Fence {
 }
 
 // The sensor after the place `i`, round the fence: the first after the last, and 0 if there is none.
+// It is no Option: who asks is at a place of the fence, and would only unwrap it.
 pub fn next(fence: &[u16], i: usize) -> u16
     ensures { result ≡ after fence.now i }
 {

@@ -7,7 +7,7 @@ ghost use Rattle.survey.specs.Views.{drawn};
 use crate::fence::Fence;
 use crate::neighbours::Neighbours;
 
-// It keeps every rule.
+// It keeps every rule. It has no model, since who is linked to whom is a function.
 #[derive(Drop)]
 pub struct Survey {
     neighbours: Neighbours,

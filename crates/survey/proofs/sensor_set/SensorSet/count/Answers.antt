@@ -6,4 +6,4 @@ use Rattle.survey.proofs.sensor_set.SensorSet.count.Goals as goal
 
 pub returns : goal.returns
 unfolding members
-returns c = counted (set_of c.args.self.now) (λ x. x) c.count.ensures.runs c.filter.ensures.runs (λ x r f k. search rules) c.new.ensures refl
+returns c = counted (set_of c.args.self.now) (λ x. x) c.count.ensures.ran c.filter.ensures.source c.filter.ensures.closure (λ x r f k. search rules) c.new.ensures refl

@@ -10,7 +10,7 @@ use Rattle.verifier.proofs.roster.Roster.new.Goals as goal
 -- a sensor of the fence has a record
 in_table : (p : Plan) (fence : List ℕ) (i : ℕ) → fence ≡ (survey_of p).fence → i < length fence → get_or fence i 0 < 65
 in_table p fence i e l =
-    let within = getD_within p.neighbours.count nobody (survey_of p).fence i p.different (subst (λ (f : List ℕ). i < length f) e l) in
+    let within = getD_within p.neighbours.count nobody (survey_of p).fence i p.rules.different (subst (λ (f : List ℕ). i < length f) e l) in
     let same : get_or fence i 0 ≡ get_or (survey_of p).fence i 0 = ap (λ (f : List ℕ). get_or f i 0) e in
     omega (arith, within.1, p.neighbours.most)
 
