@@ -20,7 +20,12 @@ pub trait TotalOrder: Ord {
 pub fn find<R: TotalOrder>(list: &[R], wanted: &R) -> Option<usize>
     ensures { Found R.TotalOrder.less list.now wanted.now result }
 {
-    list.binary_search(wanted).ok()
+    let place = list.partition_point(|record| record < wanted);
+    if place < list.len() && list[place] == *wanted {
+        Some(place)
+    } else {
+        None
+    }
 }
 
 // Is each record above the one before it?
