@@ -1,13 +1,15 @@
 -- Lists that ascend: each element is below each later one, and what a search by halves and a test of neighbours say of them.
-use Rattle.std.proofs.Common.{◌≡◌, ℕ, zero, suc, ◌+◌, ◌<◌, ◌≤◌, Bool, true, false, List, [], ◌∷◌, length, get_or, Ordering, Less, Equal, Greater, sym, refl, ap, ◌∙◌, subst, ⊎_elim, true≢false, add-one, arith}
+use Rattle.std.proofs.Common.{◌≡◌, ℕ, zero, suc, ◌+◌, ◌<◌, Bool, true, false, List, [], ◌∷◌, length, get_or, Ordering, Less, Equal, Greater, Ok, Err, Result, Option, sym, refl, ap, ◌∙◌, subst, ⊎_elim, true≢false, add-one, arith}
 use Rattle.std.specs.Cmp.{IsTotalOrder}
 use Rattle.std.specs.List.{AllByRecursion, AllPairs, IsAllAdjacentAnswer}
-use Rattle.std.specs.List.Sorted.{IsPartitionedBy, IsPartitionPoint}
-use Rattle.std.specs.Ordering.{is_lt}
+use Rattle.std.specs.List.Sorted.{IsBinarySearchResult, IsSearchInRange, IsSortedBy}
+use Rattle.std.specs.Ordering.{is_lt, is_eq, ordering_reverse}
+use Rattle.std.specs.Result.{result_ok}
 use Rattle.std.proofs.ByRecursion.{All-get_or, All-weaker}
 use Rattle.std.proofs.lemmas.Bool.{and_parts, and_from, cases_lt}
 use Rattle.std.proofs.lemmas.Cmp.{tied_itself}
-use Rattle.complex.specs.Orders.{ascends, ascends_from, Stands}
+use Rattle.std.proofs.lemmas.List.Sorted.{searchable_from_sorted}
+use Rattle.complex.specs.Orders.{ascends, ascends_from, Stands, Found}
 
 module _ {R : Type 0} (less : R → R → Bool) where
   abbrev pub Apart : Type 0
@@ -84,23 +86,22 @@ module _ {R : Type 0} (cmp : R → R → Ordering) (total : IsTotalOrder cmp) (l
   pub less_chained : Chained less
   less_chained x y z p q = sym (decides x z) ∙ ap is_lt (total.trans x y z (less_is x y p) (less_is y z q))
 
-  -- in a list that ascends, what is below an element stands before what is not
-  pub partitioned_by : (xs : List R) → ascends less xs ≡ true → (x : R) → IsPartitionedBy (λ y. less y x) xs
-  partitioned_by xs up x i j d l lt h =
-      ⊎_elim
-      (λ (m : i < j). less_chained _ _ _ (ascends_far less less_chained xs up i j d m lt) h)
-      (λ (m : j ≤ i). let same : j ≡ i = omega arith in subst (λ k. less (get_or xs k d) x ≡ true) same h)
-      (cases_lt i j)
+  sorted_by : (xs : List R) → ascends less xs ≡ true → IsSortedBy (λ x y. is_lt (cmp x y)) xs
+  sorted_by xs up k d _ l =
+      let below = less_is (get_or xs k d) (get_or xs (k + 1) d) (ascends_far less less_chained xs up k (k + 1) d (omega arith) l) in
+      ap is_lt (total.antisymm (get_or xs (k + 1) d) (get_or xs k d) ∙ ap ordering_reverse below)
 
-  -- so it stands between the two or nowhere
-  pub nowhere_by : (xs : List R) → ascends less xs ≡ true → (x : R) (i : ℕ) → IsPartitionPoint (λ y. less y x ≡ true) (λ y. less y x ≡ false) xs i
-      → (Stands xs i x → ⊥) → (k : ℕ) → Stands xs k x → ⊥
-  nowhere_by xs up x i at n k s = ⊎_elim
-      (λ (l : k < i). true≢false (sym (subst (λ y. less y x ≡ true) (s.1 x) (at.0 k x (omega arith) l)) ∙ less_apart x))
-      (λ (ge : i ≤ k). ⊎_elim
-      (λ (m : i < k).
-      let lt = s.0 in
-      true≢false (sym (subst (λ y. less (get_or xs i x) y ≡ true) (s.1 x) (ascends_far less less_chained xs up i k x m lt)) ∙ at.1 i x (omega arith) (omega arith)))
-      (λ (m : k ≤ i). let same : k ≡ i = omega arith in n (subst (λ j. Stands xs j x) same s))
-      (cases_lt i k))
-      (cases_lt k i)
+  -- what a search by halves finds, where records that tie are the same
+  pub found_by : ((x y : R) → cmp x y ≡ Equal → x ≡ y) → (xs : List R) (x : R) (r : Result ℕ ℕ) (o : Option ℕ) → o ≡ result_ok r
+      → IsSearchInRange r (length xs) → IsBinarySearchResult (λ y. cmp y x) xs r → Found less xs x o
+  found_by same xs x (Ok i) o e b h = subst (Found less xs x) (sym e) (b, λ d. same _ x (h d))
+  found_by same xs x (Err i) o e b h = subst (Found less xs x) (sym e) nowhere
+    where
+      nowhere : ascends less xs ≡ true → (k : ℕ) → Stands xs k x → ⊥
+      nowhere up k s =
+          let at = h (searchable_from_sorted total (λ y. y) xs x (sorted_by xs up)) in
+          let tied : cmp (get_or xs k x) x ≡ Equal = ap (λ y. cmp y x) (s.1 x) ∙ tied_itself total x in
+          ⊎_elim
+          (λ l. true≢false (ap is_eq (sym tied ∙ at.0 k x (omega arith) l)))
+          (λ g. true≢false (ap is_eq (sym tied ∙ at.1 k x g s.0)))
+          (cases_lt k i)

@@ -20,12 +20,7 @@ pub trait TotalOrder: Ord {
 pub fn find<R: TotalOrder>(list: &[R], wanted: &R) -> Option<usize>
     ensures { Found R.TotalOrder.less list.now wanted.now result }
 {
-    let place = list.partition_point(|record| record < wanted);
-    if place < list.len() && list[place] == *wanted {
-        Some(place)
-    } else {
-        None
-    }
+    list.binary_search(wanted).ok()
 }
 
 // Is each record above the one before it?
