@@ -1,6 +1,6 @@
 -- The columns of the starting matrix: where they can be nonzero, and searches that look only there.
-use Rattle.std.proofs.Common.{◌≡◌, ℕ, ◌+◌, ◌-◌, ◌<◌, ◌≤◌, Bool, true, false, cond, ◌&&◌, ◌||◌, eqb, ltb, leb, List, [], ◌∷◌, length, get_or, Some, None, Option, inl, inr, sym, refl, ap, ◌∙◌, subst, ap₂, ⊎_elim, true≢false, arith}
-use Rattle.std.proofs.lemmas.List.{get_or_default}
+use Rattle.std.proofs.Common.{◌≡◌, ℕ, ◌+◌, ◌-◌, ◌<◌, ◌≤◌, Bool, true, false, cond, ◌&&◌, ◌||◌, eqb, ltb, leb, List, [], ◌∷◌, length, get_or, take, drop, suc, length-drop, Some, None, Option, inl, inr, sym, refl, ap, ◌∙◌, subst, ap₂, ⊎_elim, true≢false, arith}
+use Rattle.std.proofs.lemmas.List.{get_or_default, get_or-drop, take_all}
 use Rattle.std.proofs.lemmas.Bool.{cases_lt, cases_eq, cases_order, cases_Bool, and_parts, or_parts, or_from, eqb-true, cond-false}
 use Rattle.std.proofs.lemmas.Bool.Decides.{nat_tests}
 use Rattle.matrix.specs.Matrix.{inside}
@@ -11,11 +11,11 @@ use Rattle.survey.specs.declared.edge.Triangle.{Triangle}
 use Rattle.survey.specs.Surveys.{edge, steps}
 use Rattle.complex.specs.declared.boundary_grid.BoundaryGrid.{BoundaryGrid}
 use Rattle.complex.specs.Boundaries.{boundary_code_of, has_step_of, listed_system, no_edge, no_triangle}
-use Rattle.complex.specs.Grids.{matrix_of, Before, Nearer, starting_outside}
+use Rattle.complex.specs.Grids.{matrix_of, Before, HasRow, Nearer, starting_outside}
 use Rattle.complex.specs.OrderLaws.{edge_apart, edge_chained}
 use Rattle.complex.specs.Orders.{ascends, edge_less, Stands}
 use Rattle.complex.specs.Systems.{System, starting}
-use Rattle.complex.proofs.Orders.{ascends_far}
+use Rattle.complex.proofs.Orders.{ascends_far, steps_ascend}
 
 -- an edge below that of a place stands at none from there on
 pub past_none : (es : List Edge) → ascends edge_less es ≡ true → (e : Edge) (p : ℕ) (d : Edge) → edge_less e (get_or es p d) ≡ true → (i : ℕ) → p ≤ i → Stands es i e → ⊥
@@ -26,6 +26,34 @@ past_none es up e p d h i l s = ⊎_elim
     let at : p ≡ i = omega arith in
     true≢false (sym (subst (λ y. edge_less e y ≡ true) (ap (λ k. get_or es k d) at ∙ s.1 d) h) ∙ edge_apart e))
     (cases_lt p i)
+
+-- from a place on a list that ascends does so too, and holds what stands there
+ascends_drop : (es : List Edge) → ascends edge_less es ≡ true → (p : ℕ) → ascends edge_less (drop p es) ≡ true
+ascends_drop es up p = steps_ascend edge_less (drop p es) (λ k d l.
+    let n : suc (p + k) ≡ p + suc k = omega arith in
+    rw (get_or-drop p es k d, get_or-drop p es (suc k) d) (ascends_far edge_less edge_chained es up (p + k) (p + suc k) d (omega arith) (omega (arith, length-drop p es))))
+
+-- the list from a place on, as it is lent
+abbrev pub rest : List Edge → ℕ → List Edge
+rest es p = take (length es - p) (drop p es)
+
+rest_is : (es : List Edge) (p : ℕ) → rest es p ≡ drop p es
+rest_is es p = take_all (length es - p) (drop p es) (omega (arith, length-drop p es))
+
+pub row_found : (es : List Edge) (first p k : ℕ) (e : Edge) → p ≡ first - 1 → Stands (rest es p) k e → HasRow es first e (Some (p + k + 1))
+row_found es first p k e is h =
+    let s = subst (λ xs. Stands xs k e) (rest_is es p) h in
+    let low = s.0 in
+    let at : p + k ≡ p + k + 1 - 1 = omega arith in
+    (omega arith, omega arith, subst (λ i. Stands es i e) at (omega (arith, length-drop p es), λ d. sym (get_or-drop p es k d) ∙ s.1 d))
+
+pub row_none : (es : List Edge) → ascends edge_less es ≡ true → (first p : ℕ) (e : Edge) → p ≡ first - 1
+    → (ascends edge_less (rest es p) ≡ true → (k : ℕ) → Stands (rest es p) k e → ⊥) → HasRow es first e None
+row_none es up first p e is h i l k s =
+    let n = subst (λ xs. ascends edge_less xs ≡ true → (k : ℕ) → Stands xs k e → ⊥) (rest_is es p) h in
+    let lt = s.0 in
+    let at : p + (i - 1 - p) ≡ i - 1 = omega arith in
+    n (ascends_drop es up p) (i - 1 - p) (omega (arith, length-drop p es), λ d. get_or-drop p es (i - 1 - p) d ∙ ap (λ j. get_or es j d) at ∙ s.1 d)
 
 -- where a search stands: at a nonzero row from `first` on
 abbrev At : (ℕ → ℕ) → ℕ → ℕ → Type 0
@@ -46,24 +74,25 @@ module _ (f : ℕ → ℕ) (es : List Edge) (up : ascends edge_less es ≡ true)
   one_place : (i j : ℕ) → Stands es i e → Stands es j e → i ≡ j
   one_place i j s t = ⊎_elim (λ q. q) (⊎_elim (λ l. absurd (apart_places i j l s t)) (λ l. absurd (apart_places j i l t s))) (cases_order i j)
 
-  pub nearer_none : ((i : ℕ) → first ≤ i → 1 ≤ i → Stands es (i - 1) e → ⊥) → Nearer f es first e so_far so_far
+  pub nearer_none : HasRow es first e None → Nearer f es first e so_far so_far
   nearer_none n = record { sooner = λ i b. b; chosen = λ r h. inl h; passed = λ i l m k s. absurd (n i l k s) }
 
-  pub nearer_come : (p : ℕ) → Stands es p e → first ≤ p + 1 → Before (p + 1) so_far → (f (p + 1) ≡ 0 → ⊥) → Nearer f es first e so_far (Some (p + 1))
-  nearer_come p s l m d = record {
-    sooner = λ i b. before_less i (p + 1) so_far b m;
-    chosen = λ r h. let at : p + 1 ≡ r = cc in inr (subst (At f first) at (l, d));
-    passed = λ i l' m' k t. let same = one_place (i - 1) p t s in absurd (omega arith);
+  pub nearer_come : (row : ℕ) → HasRow es first e (Some row) → Before row so_far → (f row ≡ 0 → ⊥) → Nearer f es first e so_far (Some row)
+  nearer_come row h m d = record {
+    sooner = λ i b. before_less i row so_far b m;
+    chosen = λ r is. let at : row ≡ r = cc in inr (subst (At f first) at (h.0, d));
+    passed = λ i l b k s. let same = one_place (i - 1) (row - 1) s h.2 in let pos = h.1 in absurd (omega arith);
   }
 
-  pub nearer_stay : (p : ℕ) → Stands es p e → (first ≤ p + 1 → Before (p + 1) so_far → f (p + 1) ≡ 0) → Nearer f es first e so_far so_far
-  nearer_stay p s z = record {
+  pub nearer_stay : (row : ℕ) → HasRow es first e (Some row) → (Before row so_far → f row ≡ 0) → Nearer f es first e so_far so_far
+  nearer_stay row h z = record {
     sooner = λ i b. b;
-    chosen = λ r h. inl h;
-    passed = λ i l m k t.
-        let same = one_place (i - 1) p t s in
-        let at : p + 1 ≡ i = omega arith in
-        ap f (sym at) ∙ z (omega arith) (subst (λ j. Before j so_far) (sym at) m);
+    chosen = λ r is. inl is;
+    passed = λ i l b k s.
+        let same = one_place (i - 1) (row - 1) s h.2 in
+        let pos = h.1 in
+        let at : row ≡ i = omega arith in
+        ap f (sym at) ∙ z (subst (λ j. Before j so_far) (sym at) b);
   }
 
 -- the entries, said with plain values

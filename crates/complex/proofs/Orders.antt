@@ -56,7 +56,7 @@ module _ {R : Type 0} (less : R → R → Bool) where
   steps_from x [] h = refl
   steps_from x (y ∷ ys) h = and_from (less x y) (ascends_from less y ys) (h 0 x (omega arith)) (steps_from y ys (λ k d l. h (suc k) d (omega arith)))
 
-  steps_ascend : (xs : List R) → ((k : ℕ) (d : R) → suc k < length xs → less (get_or xs k d) (get_or xs (suc k) d) ≡ true) → ascends less xs ≡ true
+  pub steps_ascend : (xs : List R) → ((k : ℕ) (d : R) → suc k < length xs → less (get_or xs k d) (get_or xs (suc k) d) ≡ true) → ascends less xs ≡ true
   steps_ascend [] h = refl
   steps_ascend (x ∷ xs) h = steps_from x xs h
 

@@ -1,5 +1,5 @@
 -- The boundary grid in memory as the starting matrix, and a search in one of its columns.
-use Rattle.std.specs.Prelude.{◌≡◌, ℕ, ◌+◌, ◌-◌, ◌<◌, ◌≤◌, Bool, true, false, cond, ◌&&◌, ◌⊎◌, List, [], length, Some, Option, IfSome, ◌≢◌, nat_le, refl}
+use Rattle.std.specs.Prelude.{◌≡◌, ℕ, ◌+◌, ◌-◌, ◌<◌, ◌≤◌, Bool, true, false, cond, ◌&&◌, ◌⊎◌, List, [], length, Some, None, Option, IfSome, ◌≢◌, nat_le, refl}
 use Rattle.std.proofs.Common.{◌∙◌, arith}
 use Rattle.std.proofs.lemmas.Bool.{and_parts, and_from, le-leb, leb-true, ltb-true, eqb-true, both_ways}
 use Rattle.field.specs.Arithmetic.{Arithmetic}
@@ -26,6 +26,11 @@ usable_triangles_of ts = cond (nat_le (length ts) 1024) ts []
 abbrev pub OfSurveys : List Edge → List Triangle → List ℕ → ℕ → Matrix → Type 0
 OfSurveys es ts fence minus m = (s : Survey) (on : Sensors) (F : Arithmetic) → Valid s
     → es ≡ edges s on → ts ≡ triangles s on → fence ≡ s.fence → minus ≡ F.negative 1 → m ≡ starting_matrix (system s on F)
+
+-- the row from `first` on that holds the edge e, if one does
+abbrev pub HasRow : List Edge → ℕ → Edge → Option ℕ → Type 0
+HasRow es first e None = (i : ℕ) → first ≤ i → 1 ≤ i → Stands es (i - 1) e → ⊥
+HasRow es first e (Some row) = (first ≤ row) × (1 ≤ row) × Stands es (row - 1) e
 
 -- the row i is before the one that was found, if one was
 abbrev pub Before : ℕ → Option ℕ → Type 0

@@ -1,8 +1,7 @@
 // The first nonzero row of a column, by looking up the few edges whose rows can be nonzero.
-ghost use Rattle.std.specs.Prelude.{◌≡◌, ℕ, ◌+◌, ◌-◌, ◌≤◌, ◌↔◌, true, length, IsTrue};
+ghost use Rattle.std.specs.Prelude.{◌≡◌, ◌+◌, ◌≤◌, ◌↔◌, length, IsTrue};
 ghost use Rattle.matrix.specs.Nonzero.{next_in};
-ghost use Rattle.complex.specs.Grids.{matrix_of, Before, Nearer};
-ghost use Rattle.complex.specs.Orders.{Stands};
+ghost use Rattle.complex.specs.Grids.{matrix_of, Before, HasRow, Nearer};
 
 use super::BoundaryGrid;
 use crate::order::find;
@@ -18,26 +17,28 @@ fn is_before(row: u32, found: Option<u32>) -> bool
 }
 
 impl<'e, 't, 'f> BoundaryGrid<'e, 't, 'f> {
-    // Does the edge come before that of the row, so that it stands in no row from there on?
-    fn is_past(&self, row: u32, edge: Edge) -> bool
-        ensures { result ≡ true → (i : ℕ) → row ≤ i → 1 ≤ i → Stands self.now.edges.now (i - 1) edge → ⊥ }
+    // The row of the edge, if it has one from `first` on: the rows before are not searched.
+    fn row_of(&self, first: u32, edge: Edge) -> Option<u32>
+        ensures { HasRow self.now.edges.now first edge result }
     {
-        let place = row.saturating_sub(1) as usize;
-        place >= self.edges.len() || edge < self.edges[place]
+        let passed = first.saturating_sub(1) as usize;
+        if passed >= self.edges.len() || edge < self.edges[passed] {
+            return None;
+        }
+        let Some(place) = find(&self.edges[passed..], &edge) else {
+            return None;
+        };
+        Some((passed + place) as u32 + 1)
     }
 
     // The nearest of the row found so far and that of the edge, if this is nonzero in the column and lies from `first` on.
     fn nearer(&self, column: u32, first: u32, edge: Edge, so_far: Option<u32>) -> Option<u32>
         ensures { Nearer (λ i. (matrix_of self.now).at i column) self.now.edges.now first edge so_far result }
     {
-        if self.is_past(first, edge) {
-            return so_far;
-        }
-        let Some(place) = find(self.edges, &edge) else {
+        let Some(row) = self.row_of(first, edge) else {
             return so_far;
         };
-        let row = place as u32 + 1;
-        if first <= row && is_before(row, so_far) && self.entry(row, column) != 0 {
+        if is_before(row, so_far) && self.entry(row, column) != 0 {
             Some(row)
         } else {
             so_far
