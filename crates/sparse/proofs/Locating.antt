@@ -7,8 +7,7 @@ use Rattle.matrix.specs.Nonzero.{next_in, last_in}
 use Rattle.matrix.proofs.Nonzeros.{next_by, last_by}
 use Rattle.sparse.specs.Cells.{row_at, column_at, code_at, held_outside}
 use Rattle.sparse.specs.Chains.{row_of, code_if_of}
-use Rattle.sparse.specs.States.{cells_of, matrix_of, entry_at, Located, Inside}
-use Rattle.sparse.specs.Puts.{Place}
+use Rattle.sparse.specs.States.{cells_of, matrix_of, entry_at, Located}
 use Rattle.sparse.proofs.Rows.{row_of_none, row_of_some, row_of_used}
 use Rattle.sparse.proofs.Readings.{between, found_spot, held_in, held_none, held_past, held_below, held_filled}
 
@@ -22,10 +21,6 @@ entry_spot s p l = ⊎_elim
     held_in s.rows s.columns (cells_of s) p.row p.column l.row_from to l.column_from l.column_to
     ∙ found_spot (cells_of s) p.column p.row p.before p.at l.row_from s.sound.chained.one_each l.spotted)
     (cases_lt s.rows p.row)
-
--- the place of a spot
-pub place : {s : Sparse} {p : Spot} → Inside s p → Place s.rows s.columns p.row p.column
-place i = record { row_from = i.located.row_from; row_to = i.row_to; column_from = i.located.column_from; column_to = i.located.column_to }
 
 module _ (s : Sparse) where
   -- a column outside the shape holds nothing

@@ -22,9 +22,3 @@ pub row_of_used : (cells : List Cell) (link : ℕ) → 1 ≤ row_of cells link �
 row_of_used cells link h =
     let d : link ≡ 0 → ⊥ = λ e. omega (arith, row_of_none cells link e) in
     (d, omega (arith, row_of_some cells link d))
-
-pub row_of_lt : (cells : List Cell) (link : ℕ) → 1 ≤ row_of cells link → link - 1 < length cells
-row_of_lt cells link h = used_lt cells (link - 1) (row_of_used cells link h).1
-
-pub past_last : (cells : List Cell) (k : ℕ) → length cells ≤ k → row_at cells k ≡ 0
-past_last cells k h = ⊎_elim (λ (e : row_at cells k ≡ 0). e) (λ (d : row_at cells k ≡ 0 → ⊥). absurd (omega (arith, used_lt cells k (omega (arith, d))))) (cases_eq (row_at cells k) 0)

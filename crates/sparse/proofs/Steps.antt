@@ -15,9 +15,9 @@ use Rattle.sparse.specs.Chains.{row_of, recoded, linked_cells, linked_heads}
 use Rattle.sparse.specs.States.{cells_of, heads_of, entry_at, Taken, Inside}
 use Rattle.sparse.proofs.Rows.{used_lt, row_of_some, row_of_used}
 use Rattle.sparse.proofs.Relinks.{edited}
-use Rattle.sparse.proofs.Locating.{entry_spot, place}
+use Rattle.sparse.proofs.Locating.{entry_spot}
 use Rattle.sparse.proofs.Takes.{taking}
-use Rattle.sparse.proofs.Puts.{Put, put_inserted, put_removed, used_from, put_replaced}
+use Rattle.sparse.proofs.Puts.{Place, Put, put_inserted, put_removed, used_from, put_replaced}
 
 same_ways : (i j r c v x : ℕ) → (i ≡ r → j ≡ c → x ≡ v) → x ≡ cond (i == r && j == c) v x
 same_ways i j r c v x h = grind (arith, nat_tests)
@@ -31,9 +31,9 @@ pub put_same : (t : Terms) (m : Matrix) (r c v : ℕ) → m.at r c ≡ v → m �
 put_same t m r c v e = left_same (put_outcome t m (put_at r c v)) m _
     (same_entries m m.at (put_into m (put_at r c v)).at (λ i j. same_ways i j r c v (m.at i j) (λ f g. rw (f, g) e)))
 
--- a put leaves the terms
-pub terms_by : {n n' w w' : ℕ} → n' ≡ n → w' ≡ w → sparse_terms n' w' ≡ sparse_terms n w
-terms_by en ew = cc
+-- the place of a spot
+pub place : {s : Sparse} {p : Spot} → Inside s p → Place s.rows s.columns p.row p.column
+place i = record { row_from = i.located.row_from; row_to = i.row_to; column_from = i.located.column_from; column_to = i.located.column_to }
 
 -- the cell that is picked is there
 pub taken_from : (s : Sparse) {l : ℕ} {left : Spare} → s.used < min (length (cells_of s)) 65535 → Taken (cells_of s) s.spare l left → (1 ≤ l) × (l ≤ length (cells_of s))
@@ -86,7 +86,7 @@ module _ (s : Sparse) {p : Spot} (i : Inside s p) where
     remove_left {heads'} {cells'} x gone xn ec eh =
         let t = i.located.spotted in
         let apart : p.before ≢ 0 → (p.before - 1 < length (cells_of s)) × (p.before - 1 ≢ p.at - 1) = λ d. (used_lt (cells_of s) (p.before - 1) (t.stands d).1, λ e. omega (arith, t.below, row_of_some (cells_of s) p.before d, ap (row_at (cells_of s)) e, hit)) in
-        put_removed s.sound (place i) t at_some.0 hit x gone xn refl
+        put_removed s.sound (place i) t at_some.0 hit x gone xn
         (edited (heads_of s) heads' (cells_of s) cells' p.column p.before p.at _ x i.located.column_from in_heads at_lt apart ec eh)
 
     pub remove_from : 1 ≤ s.used
