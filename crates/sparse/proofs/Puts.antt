@@ -6,14 +6,14 @@ use Rattle.matrix.specs.Matrix.{inside, count, one_if_not_zero, put_at, put_into
 use Rattle.matrix.proofs.Counts.{count_put}
 use Rattle.sparse.specs.declared.cell.Cell.{Cell}
 use Rattle.sparse.specs.Cells.{cell, row_at, column_at, code_at, next_at, found, held, sparse_terms}
-use Rattle.sparse.specs.Chains.{Chained, Spotted, Stands, OneEach, spare, recoded}
+use Rattle.sparse.specs.Chains.{Follows, Chained, Spotted, Stands, OneEach, spare, recoded}
 use Rattle.sparse.specs.Puts.{Kept}
 use Rattle.sparse.specs.Sound.{Sound}
 use Rattle.sparse.proofs.Rows.{used_lt}
 use Rattle.sparse.proofs.Found.{found_none}
-use Rattle.sparse.proofs.Readings.{between, found_here, held_in}
+use Rattle.sparse.proofs.Readings.{between, found_by, held_in}
 use Rattle.sparse.proofs.Relinks.{Edited, same_of}
-use Rattle.sparse.proofs.Walks.{Follows, follows_by, first_follows, next_follows, chained_by}
+use Rattle.sparse.proofs.Walks.{follows_by, first_follows, next_follows, chained_by}
 use Rattle.sparse.proofs.Inserts.{insert_chained}
 use Rattle.sparse.proofs.Removes.{remove_chained}
 use Rattle.sparse.proofs.Changes.{Changed, held_changed, filled_changed, rows_to_changed, unused_changed, kept_changed}
@@ -51,10 +51,6 @@ counts rows columns r c v cells cells' p h =
     ap (λ m. count m + one_if_not_zero (found cells r c)) h
     ∙ ap (λ x. count (put_into (held rows columns cells) (put_at r c v)) + one_if_not_zero x) (sym (held_in rows columns cells r c p.row_from p.row_to p.column_from p.column_to))
     ∙ count_put (held rows columns cells) (put_at r c v) (inside_is rows columns r c p)
-
--- the code at a place in use
-found_by : (cells : List Cell) (k r c v : ℕ) → OneEach cells → row_at cells k ≡ r → 1 ≤ r → column_at cells k ≡ c → code_at cells k ≡ v → found cells r c ≡ v
-found_by cells k r c v one er l ec ev = ap (λ x. found cells x c) (sym er) ∙ ap (found cells (row_at cells k)) (sym ec) ∙ found_here cells k one (omega arith) ∙ ev
 
 -- the same places and links
 record Links (cells cells' : List Cell) : Type 0 where
