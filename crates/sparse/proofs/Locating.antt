@@ -1,6 +1,5 @@
 -- The spots of a store's entries.
-use Rattle.std.proofs.Common.{◌≡◌, ℕ, min, max, Some, None, ◌≢◌, ◌+◌, ◌-◌, ◌<◌, ◌≤◌, cond, eqb, refl, ◌∙◌, ⊎_elim, arith}
-use Rattle.std.proofs.lemmas.Bool.{cond-false, ne_eqb, cases_lt}
+use Rattle.std.proofs.Common.{◌≡◌, ℕ, min, max, Some, None, ◌≢◌, ◌+◌, ◌-◌, ◌<◌, ◌≤◌, refl, ◌∙◌, arith}
 use Rattle.sparse.specs.declared.chains.Spot.{Spot}
 use Rattle.sparse.specs.declared.sparse.Sparse.{Sparse}
 use Rattle.matrix.specs.Nonzero.{next_in, last_in}
@@ -8,7 +7,7 @@ use Rattle.matrix.proofs.Nonzeros.{next_by, last_by}
 use Rattle.sparse.specs.Cells.{row_at, column_at, code_at, held_outside}
 use Rattle.sparse.specs.Chains.{row_of}
 use Rattle.sparse.specs.States.{cells_of, matrix_of, entry_at, Located}
-use Rattle.sparse.proofs.Rows.{row_of_none, row_of_some, row_of_used}
+use Rattle.sparse.proofs.Rows.{row_of_none, row_of_some}
 use Rattle.sparse.proofs.Readings.{between, found_by, held_in, held_none, held_past, held_filled}
 
 -- the entry is the code of the spot's second link, where that leads to the row, and else 0

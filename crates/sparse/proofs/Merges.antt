@@ -1,5 +1,5 @@
 -- A multiple of one column added to another by a walk along both chains.
-use Rattle.std.proofs.Common.{◌≡◌, ◌≢◌, ℕ, ◌-◌, ◌<◌, ◌≤◌, cond, eqb, List, length, Ok, Err, Result, sym, refl, ap, subst, ◌∙◌, ⊎_elim, arith}
+use Rattle.std.proofs.Common.{◌≡◌, ◌≢◌, ℕ, ◌-◌, ◌<◌, ◌≤◌, cond, eqb, List, Ok, Err, Result, sym, refl, ap, subst, ◌∙◌, ⊎_elim, arith}
 use Rattle.std.proofs.lemmas.Bool.{cases_eq, cond-true, cond-false, eq-eqb, ne_eqb}
 use Rattle.refusal.specs.declared.Refusal.{Refusal}
 use Rattle.refusal.specs.declared.Refusal.TheVariants.{OutsideShape}
@@ -14,7 +14,7 @@ use Rattle.matrix.proofs.Puts.{Comes}
 use Rattle.matrix.proofs.Multiples.{Adding, Reached, Due, adding_start, adding_put, adding_refused, adding_end}
 use Rattle.sparse.specs.declared.cell.Cell.{Cell}
 use Rattle.sparse.specs.Cells.{cell, row_at, column_at, found}
-use Rattle.sparse.specs.Chains.{Follows, row_of, Stands, Spotted}
+use Rattle.sparse.specs.Chains.{Follows, row_of, Stands}
 use Rattle.sparse.specs.Puts.{Kept}
 use Rattle.sparse.specs.declared.chains.Spot.{Spot}
 use Rattle.sparse.specs.declared.sparse.Sparse.{Sparse}

@@ -6,7 +6,7 @@ use Rattle.matrix.specs.Matrix.{inside, count, one_if_not_zero, put_at, put_into
 use Rattle.matrix.proofs.Counts.{count_put}
 use Rattle.sparse.specs.declared.cell.Cell.{Cell}
 use Rattle.sparse.specs.Cells.{cell, row_at, column_at, code_at, next_at, found, held, sparse_terms}
-use Rattle.sparse.specs.Chains.{Follows, Chained, Spotted, Stands, OneEach, spare, recoded}
+use Rattle.sparse.specs.Chains.{Follows, Chained, Spotted, Stands, spare, recoded}
 use Rattle.sparse.specs.Puts.{Kept}
 use Rattle.sparse.specs.Sound.{Sound}
 use Rattle.sparse.proofs.Rows.{used_lt}

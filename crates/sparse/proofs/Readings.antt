@@ -1,14 +1,11 @@
 -- What a walk along a chain tells of the matrix.
-use Rattle.std.proofs.Common.{◌≡◌, ℕ, ◌+◌, ◌-◌, ◌<◌, ◌≤◌, min, max, true, false, ◌&&◌, eqb, leb, ◌⊎◌, List, Some, None, sym, refl, ap, ◌∙◌, ⊎_elim, arith}
-use Rattle.std.proofs.lemmas.Bool.{cond-true, cond-false, ne_eqb, eq-eqb, cases_eq, cases_Bool, and_parts, leb-true}
+use Rattle.std.proofs.Common.{◌≡◌, ℕ, ◌-◌, ◌<◌, ◌≤◌, true, false, ◌&&◌, leb, List, sym, refl, ap, ◌∙◌, ⊎_elim, arith}
+use Rattle.std.proofs.lemmas.Bool.{cond-true, cond-false, cases_Bool, and_parts, leb-true}
 use Rattle.std.proofs.lemmas.Bool.Decides.{nat_tests}
 use Rattle.matrix.specs.Matrix.{inside}
-use Rattle.matrix.specs.Nonzero.{next_in, last_in}
-use Rattle.matrix.proofs.Nonzeros.{next_by, last_by}
 use Rattle.sparse.specs.declared.cell.Cell.{Cell}
-use Rattle.sparse.specs.Cells.{row_at, column_at, code_at, found, held, held_outside}
+use Rattle.sparse.specs.Cells.{row_at, column_at, code_at, found, held}
 use Rattle.sparse.specs.Chains.{row_of, Spotted, OneEach, Filled, RowsTo}
-use Rattle.sparse.proofs.Rows.{row_of_none, row_of_some}
 use Rattle.sparse.proofs.Found.{found_none, found_at}
 
 -- no row between the two links of a spot is held

@@ -1,6 +1,6 @@
 -- The three ways of a put, as the code goes them.
-use Rattle.std.proofs.Common.{◌≡◌, ◌≢◌, ℕ, ◌+◌, ◌-◌, ◌<◌, ◌≤◌, min, cond, ◌&&◌, ◌==◌, eqb, List, length, set, sym, refl, ap, ◌∙◌, ⊎_elim, arith}
-use Rattle.std.proofs.lemmas.Bool.{cases_eq, cond-true, cond-false, eq-eqb, ne_eqb}
+use Rattle.std.proofs.Common.{◌≡◌, ◌≢◌, ℕ, ◌+◌, ◌-◌, ◌<◌, ◌≤◌, min, cond, ◌&&◌, ◌==◌, List, length, set, refl, ap, ⊎_elim, arith}
+use Rattle.std.proofs.lemmas.Bool.{cases_eq}
 use Rattle.std.proofs.lemmas.Bool.Decides.{nat_tests}
 use Rattle.matrix.specs.Matrix.{Matrix, put_at, put_into}
 use Rattle.refusal.specs.Outcomes.{Outcome, accepted, refused}
@@ -10,10 +10,10 @@ use Rattle.sparse.specs.declared.cell.Cell.{Cell}
 use Rattle.sparse.specs.declared.chains.Spare.{Spare}
 use Rattle.sparse.specs.declared.chains.Spot.{Spot}
 use Rattle.sparse.specs.declared.sparse.Sparse.{Sparse}
-use Rattle.sparse.specs.Cells.{cell, row_at, code_at, next_at, sparse_terms}
-use Rattle.sparse.specs.Chains.{row_of, recoded, linked_cells, linked_heads}
+use Rattle.sparse.specs.Cells.{cell, row_at, next_at}
+use Rattle.sparse.specs.Chains.{recoded, linked_cells, linked_heads}
 use Rattle.sparse.specs.States.{cells_of, heads_of, entry_at, Taken, Inside}
-use Rattle.sparse.proofs.Rows.{used_lt, row_of_some, row_of_used}
+use Rattle.sparse.proofs.Rows.{used_lt, row_of_some}
 use Rattle.sparse.proofs.Relinks.{edited}
 use Rattle.sparse.proofs.Locating.{entry_here, entry_none}
 use Rattle.sparse.proofs.Takes.{taking}

@@ -1,10 +1,9 @@
 -- A walk along the chain of a column.
-use Rattle.std.proofs.Common.{◌≡◌, ◌≢◌, ℕ, ◌-◌, ◌≤◌, cond, eqb, List, get_or, sym, ◌∙◌, subst, ⊎_elim, arith}
-use Rattle.std.proofs.lemmas.Bool.{cond-true, cond-false, ne_eqb, eq-eqb, cases_eq}
+use Rattle.std.proofs.Common.{◌≡◌, ◌≢◌, ℕ, ◌-◌, ◌≤◌, List, get_or, subst}
 use Rattle.sparse.specs.declared.cell.Cell.{Cell}
 use Rattle.sparse.specs.Cells.{cell, row_at, column_at, next_at}
 use Rattle.sparse.specs.Chains.{row_of, Follows, OneEach, Chained, Walkable, Stands}
-use Rattle.sparse.proofs.Rows.{row_of_none, row_of_some}
+use Rattle.sparse.proofs.Rows.{row_of_some}
 
 -- the link after a cell
 pub after_cell : (cells : List Cell) (heads : List ℕ) (c link : ℕ) (x : Cell) → Walkable c heads cells → Stands cells c link → (link ≢ 0) × (x ≡ cell cells (link - 1)) → Follows cells c (row_of cells link) x.next

@@ -1,5 +1,5 @@
 -- The code at the spot is the entry.
-use Rattle.std.proofs.Common.{sym, ap, ◌∙◌, arith}
+use Rattle.std.proofs.Common.{sym, ap, ◌∙◌}
 use Rattle.sparse.specs.declared.cell.Cell.{Cell}
 use Rattle.sparse.proofs.Locating.{entry_here, entry_none}
 use Rattle.sparse.proofs.sparse.Sparse.code.Goals as goal
