@@ -37,9 +37,6 @@ held_none rows columns cells r c h = ⊎_elim
 pub held_past : (rows columns : ℕ) (cells : List Cell) (r c : ℕ) → (1 ≤ c → columns < c) → (held rows columns cells).at r c ≡ 0
 held_past rows columns cells r c h = cond-false (inside rows columns r c) _ _ (grind (arith, nat_tests))
 
-pub held_below : (rows columns : ℕ) (cells : List Cell) (r c : ℕ) → rows < r → (held rows columns cells).at r c ≡ 0
-held_below rows columns cells r c h = cond-false (inside rows columns r c) _ _ (grind (arith, nat_tests))
-
 -- an entry that a cell in use holds is not zero
 pub held_filled : (rows columns : ℕ) (cells : List Cell) (c k : ℕ) → OneEach cells → Filled cells → RowsTo rows cells → 1 ≤ c → c ≤ columns → 1 ≤ row_at cells k → column_at cells k ≡ c
     → (held rows columns cells).at (row_at cells k) c ≡ 0 → ⊥

@@ -16,9 +16,3 @@ pub used_lt : (cells : List Cell) (k : ℕ) → 1 ≤ row_at cells k → k < len
 used_lt [] k h = absurd (omega arith)
 used_lt (x ∷ xs) zero h = omega arith
 used_lt (x ∷ xs) (suc k) h = omega (arith, used_lt xs k h)
-
--- a link that leads to a row leads to a place in use
-pub row_of_used : (cells : List Cell) (link : ℕ) → 1 ≤ row_of cells link → (link ≡ 0 → ⊥) × (1 ≤ row_at cells (link - 1))
-row_of_used cells link h =
-    let d : link ≡ 0 → ⊥ = λ e. omega (arith, row_of_none cells link e) in
-    (d, omega (arith, row_of_some cells link d))
