@@ -1,31 +1,24 @@
 -- The spots of a store's entries.
-use Rattle.std.proofs.Common.{◌≡◌, ℕ, min, max, Some, None, ◌≢◌, ◌+◌, ◌-◌, ◌<◌, ◌≤◌, cond, eqb, sym, ◌∙◌, inr, ⊎_elim, arith}
-use Rattle.std.proofs.lemmas.Bool.{cond-false, ne_eqb, cases_lt}
+use Rattle.std.proofs.Common.{◌≡◌, ℕ, min, max, Some, None, ◌≢◌, ◌+◌, ◌-◌, ◌<◌, ◌≤◌, refl, ◌∙◌, arith}
 use Rattle.sparse.specs.declared.chains.Spot.{Spot}
 use Rattle.sparse.specs.declared.sparse.Sparse.{Sparse}
 use Rattle.matrix.specs.Nonzero.{next_in, last_in}
 use Rattle.matrix.proofs.Nonzeros.{next_by, last_by}
 use Rattle.sparse.specs.Cells.{row_at, column_at, code_at, held_outside}
-use Rattle.sparse.specs.Chains.{row_of, code_if_of}
-use Rattle.sparse.specs.States.{cells_of, matrix_of, entry_at, Located, Inside}
-use Rattle.sparse.specs.Puts.{Place}
-use Rattle.sparse.proofs.Rows.{row_of_none, row_of_some, row_of_used}
-use Rattle.sparse.proofs.Readings.{between, found_spot, held_in, held_none, held_past, held_below, held_filled}
+use Rattle.sparse.specs.Chains.{row_of}
+use Rattle.sparse.specs.States.{cells_of, matrix_of, entry_at, Located}
+use Rattle.sparse.proofs.Rows.{row_of_none, row_of_some}
+use Rattle.sparse.proofs.Readings.{between, found_by, held_in, held_none, held_past, held_filled}
 
--- the entry is the code at the spot
-pub entry_spot : (s : Sparse) (p : Spot) → Located s p → entry_at s p ≡ code_if_of (cells_of s) p.row p.at
-entry_spot s p l = ⊎_elim
-    (λ (past : s.rows < p.row).
-    let none : row_of (cells_of s) p.at ≢ p.row = λ e. (let u = row_of_used (cells_of s) p.at (omega (arith, l.row_from)) in omega (arith, s.sound.rows_to (p.at - 1), row_of_some (cells_of s) p.at u.0)) in
-    held_below s.rows s.columns (cells_of s) p.row p.column past ∙ sym (cond-false (eqb (row_of (cells_of s) p.at) p.row) (code_at (cells_of s) (p.at - 1)) 0 (ne_eqb _ _ none)))
-    (λ (to : p.row ≤ s.rows).
-    held_in s.rows s.columns (cells_of s) p.row p.column l.row_from to l.column_from l.column_to
-    ∙ found_spot (cells_of s) p.column p.row p.before p.at l.row_from s.sound.chained.one_each l.spotted)
-    (cases_lt s.rows p.row)
+-- the entry is the code of the spot's second link, where that leads to the row, and else 0
+pub entry_here : (s : Sparse) (p : Spot) → Located s p → p.at ≢ 0 → row_at (cells_of s) (p.at - 1) ≡ p.row → entry_at s p ≡ code_at (cells_of s) (p.at - 1)
+entry_here s p l d hit =
+    held_in s.rows s.columns (cells_of s) p.row p.column l.row_from (omega (arith, s.sound.rows_to (p.at - 1))) l.column_from l.column_to
+    ∙ found_by (cells_of s) (p.at - 1) p.row p.column _ s.sound.chained.one_each hit l.row_from (l.spotted.ahead d).0 refl
 
--- the place of a spot
-pub place : {s : Sparse} {p : Spot} → Inside s p → Place s.rows s.columns p.row p.column
-place i = record { row_from = i.located.row_from; row_to = i.row_to; column_from = i.located.column_from; column_to = i.located.column_to }
+pub entry_none : (s : Sparse) (p : Spot) → Located s p → (p.at ≢ 0 → row_at (cells_of s) (p.at - 1) ≢ p.row) → entry_at s p ≡ 0
+entry_none s p l miss = held_none s.rows s.columns (cells_of s) p.row p.column
+    (λ _ _. between (cells_of s) p.column p.row p.before p.at p.row l.spotted l.spotted.below (λ d. omega (arith, l.spotted.reached d, miss d)))
 
 module _ (s : Sparse) where
   -- a column outside the shape holds nothing

@@ -1,5 +1,5 @@
 -- A multiple of one column added to another by a walk along both chains.
-use Rattle.std.proofs.Common.{◌≡◌, ◌≢◌, ℕ, ◌-◌, ◌<◌, ◌≤◌, cond, eqb, List, length, Ok, Err, Result, sym, refl, ap, subst, ◌∙◌, ⊎_elim, arith}
+use Rattle.std.proofs.Common.{◌≡◌, ◌≢◌, ℕ, ◌-◌, ◌<◌, ◌≤◌, cond, eqb, List, Ok, Err, Result, sym, refl, ap, subst, ◌∙◌, ⊎_elim, arith}
 use Rattle.std.proofs.lemmas.Bool.{cases_eq, cond-true, cond-false, eq-eqb, ne_eqb}
 use Rattle.refusal.specs.declared.Refusal.{Refusal}
 use Rattle.refusal.specs.declared.Refusal.TheVariants.{OutsideShape}
@@ -14,7 +14,7 @@ use Rattle.matrix.proofs.Puts.{Comes}
 use Rattle.matrix.proofs.Multiples.{Adding, Reached, Due, adding_start, adding_put, adding_refused, adding_end}
 use Rattle.sparse.specs.declared.cell.Cell.{Cell}
 use Rattle.sparse.specs.Cells.{cell, row_at, column_at, found}
-use Rattle.sparse.specs.Chains.{row_of, Stands, Spotted}
+use Rattle.sparse.specs.Chains.{Follows, row_of, Stands}
 use Rattle.sparse.specs.Puts.{Kept}
 use Rattle.sparse.specs.declared.chains.Spot.{Spot}
 use Rattle.sparse.specs.declared.sparse.Sparse.{Sparse}
@@ -22,7 +22,7 @@ use Rattle.sparse.specs.States.{cells_of, heads_of, entry_at, matrix_of, terms_o
 use Rattle.sparse.proofs.Rows.{row_of_none, row_of_some}
 use Rattle.sparse.proofs.Found.{found_none}
 use Rattle.sparse.proofs.Readings.{found_here, held_in, held_none, held_past}
-use Rattle.sparse.proofs.Walks.{Follows, follows_by, next_follows}
+use Rattle.sparse.proofs.Walks.{follows_by, next_follows}
 
 -- what a put at a row leaves of the links past it, and of those before it
 follows_kept : (cells cells' : List Cell) (c d r link : ℕ) → Kept cells cells' r d → Follows cells c r link → Follows cells' c r link

@@ -1,32 +1,38 @@
 -- What one put leaves.
-use Rattle.std.proofs.Common.{◌≡◌, ℕ, zero, suc, ◌+◌, ◌-◌, ◌<◌, ◌≤◌, true, List, length, get_or, set, sym, refl, ap, ◌∙◌, inl, inr, ⊎_elim, arith, length-set, get_or-set_other, get_or-set_same}
+use Rattle.std.proofs.Common.{◌≡◌, ℕ, zero, suc, ◌+◌, ◌-◌, ◌<◌, ◌≤◌, min, true, List, length, get_or, set, sym, refl, ap, ◌∙◌, inl, inr, ⊎_elim, arith, length-set, get_or-set_other, get_or-set_same}
 use Rattle.std.proofs.lemmas.Bool.{cases_eq, cases_lt}
 use Rattle.std.proofs.lemmas.Bool.Decides.{nat_tests}
 use Rattle.matrix.specs.Matrix.{inside, count, one_if_not_zero, put_at, put_into}
 use Rattle.matrix.proofs.Counts.{count_put}
 use Rattle.sparse.specs.declared.cell.Cell.{Cell}
-use Rattle.sparse.specs.Cells.{cell, row_at, column_at, code_at, next_at, found, held}
-use Rattle.sparse.specs.Chains.{Chained, Spotted, Stands, OneEach, spare, recoded}
-use Rattle.sparse.specs.Puts.{Place, Kept}
+use Rattle.sparse.specs.Cells.{cell, row_at, column_at, code_at, next_at, found, held, sparse_terms}
+use Rattle.sparse.specs.Chains.{Follows, Chained, Spotted, Stands, spare, recoded}
+use Rattle.sparse.specs.Puts.{Kept}
 use Rattle.sparse.specs.Sound.{Sound}
 use Rattle.sparse.proofs.Rows.{used_lt}
 use Rattle.sparse.proofs.Found.{found_none}
-use Rattle.sparse.proofs.Readings.{between, found_here, held_in}
+use Rattle.sparse.proofs.Readings.{between, found_by, held_in}
 use Rattle.sparse.proofs.Relinks.{Edited, same_of}
-use Rattle.sparse.proofs.Walks.{Follows, follows_by, first_follows, next_follows, chained_by}
+use Rattle.sparse.proofs.Walks.{follows_by, first_follows, next_follows, chained_by}
 use Rattle.sparse.proofs.Inserts.{insert_chained}
 use Rattle.sparse.proofs.Removes.{remove_chained}
 use Rattle.sparse.proofs.Changes.{Changed, held_changed, filled_changed, rows_to_changed, unused_changed, kept_changed}
 use Rattle.sparse.proofs.Spares.{Idle, first_spare, spare_used}
 use Rattle.sparse.proofs.Takes.{Taking}
 
+-- a place of the shape
+pub record Place (rows columns r c : ℕ) : Type 0 where
+  pub row_from : 1 ≤ r
+  pub row_to : r ≤ rows
+  pub column_from : 1 ≤ c
+  pub column_to : c ≤ columns
+
 -- the invariant, the matrix and the cells of other entries after it
 pub record Put (rows columns used free fresh : ℕ) (heads heads' : List ℕ) (cells cells' : List Cell) (r c v : ℕ) : Type 0 where
   pub is_sound : Sound rows columns used free fresh heads' cells'
   pub holds : held rows columns cells' ≡ put_into (held rows columns cells) (put_at r c v)
   pub kept : Kept cells cells' r c
-  pub many : length cells' ≡ length cells
-  pub wide : length heads' ≡ length heads
+  pub terms : sparse_terms (length cells') (length heads') ≡ sparse_terms (length cells) (length heads)
 
 one_some : (v : ℕ) → 1 ≤ v → one_if_not_zero v ≡ 1
 one_some zero h = absurd (omega arith)
@@ -45,10 +51,6 @@ counts rows columns r c v cells cells' p h =
     ap (λ m. count m + one_if_not_zero (found cells r c)) h
     ∙ ap (λ x. count (put_into (held rows columns cells) (put_at r c v)) + one_if_not_zero x) (sym (held_in rows columns cells r c p.row_from p.row_to p.column_from p.column_to))
     ∙ count_put (held rows columns cells) (put_at r c v) (inside_is rows columns r c p)
-
--- the code at a place in use
-found_by : (cells : List Cell) (k r c v : ℕ) → OneEach cells → row_at cells k ≡ r → 1 ≤ r → column_at cells k ≡ c → code_at cells k ≡ v → found cells r c ≡ v
-found_by cells k r c v one er l ec ev = ap (λ x. found cells x c) (sym er) ∙ ap (found cells (row_at cells k)) (sym ec) ∙ found_here cells k one (omega arith) ∙ ev
 
 -- the same places and links
 record Links (cells cells' : List Cell) : Type 0 where
@@ -79,6 +81,30 @@ idle_edited heads heads' cells cells' c b l to x e s q ne z =
 
 module _ {rows columns used free fresh : ℕ} {heads : List ℕ} {cells : List Cell} {r c b a : ℕ}
     (s : Sound rows columns used free fresh heads cells) (p : Place rows columns r c) (t : Spotted cells c r b a) where
+  -- one cell changed, and what is spare and in use with it
+  put_by : {heads' : List ℕ} {cells' : List Cell} {used' free' fresh' v : ℕ} (k : ℕ) → Changed cells cells' r c k → Chained columns heads' cells' → length heads' ≡ length heads → found cells' r c ≡ v
+      → (1 ≤ row_at cells' k → 1 ≤ code_at cells' k) → k < fresh' → fresh ≤ fresh' → fresh' ≤ min (length cells) 65535 → used' ≤ fresh' → spare cells' fresh' (fresh' - used') free' ≡ true
+      → used' + one_if_not_zero (found cells r c) ≡ used + one_if_not_zero v → Put rows columns used' free' fresh' heads heads' cells cells' r c v
+  put_by {heads'} {cells'} {used'} {free'} {fresh'} {v} k h ch wide is some in_fresh later lent begun spared counted =
+      let holds = held_changed rows columns cells cells' r c k v p.row_from p.row_to p.column_from p.column_to h is in
+      record {
+        is_sound = record {
+          low = s.low;
+          wide = omega (arith, s.wide);
+          chained = ch;
+          filled = filled_changed cells cells' r c k h s.filled some;
+          rows_to = rows_to_changed rows cells cells' r c k h p.row_to s.rows_to;
+          lent = omega (arith, h.many);
+          unused = unused_changed fresh fresh' cells cells' r c k h in_fresh later s.unused;
+          begun = begun;
+          spared = spared;
+          counted = omega (arith, counts rows columns r c v cells cells' p holds, s.counted);
+        };
+        holds = holds;
+        terms = rw (h.many, wide);
+        kept = kept_changed cells cells' r c k h p.row_from;
+      }
+
   module _ {heads' : List ℕ} {cells' : List Cell} {v : ℕ} (l free' fresh' : ℕ) (x : Cell) (new : (a ≡ 0 → ⊥) → r < row_at cells (a - 1)) (some : 1 ≤ v) (k : Taking cells used fresh l free' fresh')
       (xr : x.row ≡ r) (xc : x.column ≡ c) (xv : x.code ≡ v) (xn : x.next ≡ a) (e : Edited heads heads' cells cells' c b l l x) where
     pub put_inserted : Put rows columns (used + 1) free' fresh' heads heads' cells cells' r c v
@@ -87,27 +113,10 @@ module _ {rows columns used free fresh : ℕ} {heads : List ℕ} {cells : List C
         let row : row_at cells' (l - 1) ≡ r = ap (λ (u : Cell). u.row) e.here ∙ xr in
         let column : column_at cells' (l - 1) ≡ c = ap (λ (u : Cell). u.column) e.here ∙ xc in
         let code : code_at cells' (l - 1) ≡ v = ap (λ (u : Cell). u.code) e.here ∙ xv in
-        let h : Changed cells cells' r c (l - 1) = record { others = e.others; old = inl k.idle; new = inr (row, column); many = e.many } in
-        let holds = held_changed rows columns cells cells' r c (l - 1) v p.row_from p.row_to p.column_from p.column_to h (found_by cells' (l - 1) r c v ch.one_each row p.row_from column code) in
         let none : found cells r c ≡ 0 = between cells c r b a r t t.below new in
-        record {
-          is_sound = record {
-            low = s.low;
-            wide = omega (arith, s.wide, e.wide);
-            chained = ch;
-            filled = filled_changed cells cells' r c (l - 1) h s.filled (λ _. omega arith);
-            rows_to = rows_to_changed rows cells cells' r c (l - 1) h p.row_to s.rows_to;
-            lent = omega (arith, k.lent, e.many);
-            unused = unused_changed fresh fresh' cells cells' r c (l - 1) h (omega (arith, k.from, k.to)) k.later s.unused;
-            begun = k.begun;
-            spared = k.spared cells' (idle_edited heads heads' cells cells' c b l l x e t.stands);
-            counted = omega (arith, counts rows columns r c v cells cells' p holds, ap one_if_not_zero none, one_some v some, s.counted);
-          };
-          holds = holds;
-          kept = kept_changed cells cells' r c (l - 1) h p.row_from;
-          many = e.many;
-          wide = e.wide;
-        }
+        put_by (l - 1) (record { others = e.others; old = inl k.idle; new = inr (row, column); many = e.many }) ch e.wide (found_by cells' (l - 1) r c v ch.one_each row p.row_from column code)
+        (λ _. omega arith) (omega (arith, k.from, k.to)) k.later k.lent k.begun (k.spared cells' (idle_edited heads heads' cells cells' c b l l x e t.stands))
+        (omega (arith, ap one_if_not_zero none, one_some v some))
 
   module _ (nz : a ≡ 0 → ⊥) (hit : row_at cells (a - 1) ≡ r) where
     there : code_at cells (a - 1) ≡ found cells r c
@@ -122,48 +131,31 @@ module _ {rows columns used free fresh : ℕ} {heads : List ℕ} {cells : List C
         (λ (le : fresh ≤ a - 1). absurd (omega (arith, s.unused (a - 1) le, p.row_from)))
         (cases_lt (a - 1) fresh)
 
-    pub put_removed : {heads' : List ℕ} {cells' : List Cell} {v : ℕ} (x : Cell) → x.row ≡ 0 → x.next ≡ free → v ≡ 0 → Edited heads heads' cells cells' c b a (next_at cells (a - 1)) x → Put rows columns (used - 1) a fresh heads heads' cells cells' r c v
-    put_removed {heads'} {cells'} {v} x gone xn zero-v e =
-        let ch = remove_chained columns heads heads' cells cells' c r b a x s.chained t nz hit p.row_from p.column_from p.column_to gone e in
-        let row : row_at cells' (a - 1) ≡ 0 = ap (λ (u : Cell). u.row) e.here ∙ gone in
-        let h : Changed cells cells' r c (a - 1) = record { others = e.others; old = inr (hit, (t.ahead nz).0); new = inl row; many = e.many } in
-        let none : found cells' r c ≡ 0 = found_none cells' r c (λ q qr qc.
-        let ne : q ≡ a - 1 → ⊥ = λ eq. omega (arith, ap (row_at cells') eq, p.row_from) in
-        let o = e.others q ne in
-        ne (s.chained.one_each q (a - 1) (omega (arith, o.row, p.row_from)) (sym o.row ∙ qr ∙ sym hit) (sym o.column ∙ qc ∙ sym (t.ahead nz).0))) in
-        let holds = held_changed rows columns cells cells' r c (a - 1) v p.row_from p.row_to p.column_from p.column_to h (none ∙ sym zero-v) in
-        let less : count (held rows columns cells') + 1 ≡ used = omega (arith, counts rows columns r c v cells cells' p holds, one_there, ap one_if_not_zero zero-v, s.counted) in
-        let left : fresh - (used - 1) ≡ suc (fresh - used) = omega (arith, s.begun) in
-        record {
-          is_sound = record {
-            low = s.low;
-            wide = omega (arith, s.wide, e.wide);
-            chained = ch;
-            filled = filled_changed cells cells' r c (a - 1) h s.filled (λ l. absurd (omega arith));
-            rows_to = rows_to_changed rows cells cells' r c (a - 1) h p.row_to s.rows_to;
-            lent = omega (arith, s.lent, e.many);
-            unused = unused_changed fresh fresh cells cells' r c (a - 1) h before_fresh (omega arith) s.unused;
-            begun = omega (arith, s.begun);
-            spared = ap (λ n. spare cells' fresh n a) left ∙ first_spare cells' fresh (fresh - used) a (record {
-              some = nz;
-              to = omega (arith, before_fresh);
-              idle = row;
-              rest = ap (spare cells' fresh (fresh - used)) (ap (λ (u : Cell). u.next) e.here ∙ xn)
-                  ∙ spare_used cells cells' fresh (a - 1) (fresh - used) free (idle_edited heads heads' cells cells' c b a (next_at cells (a - 1)) x e t.stands) (omega (arith, p.row_from)) s.spared;
-            });
-            counted = omega arith;
-          };
-          holds = holds;
-          kept = kept_changed cells cells' r c (a - 1) h p.row_from;
-          many = e.many;
-          wide = e.wide;
-        }
-
     -- the entry was counted
     pub used_from : 1 ≤ used
     used_from =
         let here = ap one_if_not_zero (held_in rows columns cells r c p.row_from p.row_to p.column_from p.column_to) in
         omega (arith, count_put (held rows columns cells) (put_at r c 0) (inside_is rows columns r c p), here, one_there, s.counted)
+
+    pub put_removed : {heads' : List ℕ} {cells' : List Cell} (x : Cell) → x.row ≡ 0 → x.next ≡ free → Edited heads heads' cells cells' c b a (next_at cells (a - 1)) x → Put rows columns (used - 1) a fresh heads heads' cells cells' r c 0
+    put_removed {heads'} {cells'} x gone xn e =
+        let ch = remove_chained columns heads heads' cells cells' c r b a x s.chained t nz hit p.row_from p.column_from p.column_to gone e in
+        let row : row_at cells' (a - 1) ≡ 0 = ap (λ (u : Cell). u.row) e.here ∙ gone in
+        let none : found cells' r c ≡ 0 = found_none cells' r c (λ q qr qc.
+        let ne : q ≡ a - 1 → ⊥ = λ eq. omega (arith, ap (row_at cells') eq, p.row_from) in
+        let o = e.others q ne in
+        ne (s.chained.one_each q (a - 1) (omega (arith, o.row, p.row_from)) (sym o.row ∙ qr ∙ sym hit) (sym o.column ∙ qc ∙ sym (t.ahead nz).0))) in
+        let left : fresh - (used - 1) ≡ suc (fresh - used) = omega (arith, s.begun, used_from) in
+        put_by (a - 1) (record { others = e.others; old = inr (hit, (t.ahead nz).0); new = inl row; many = e.many }) ch e.wide none
+        (λ l. absurd (omega arith)) before_fresh (omega arith) s.lent (omega (arith, s.begun))
+        (ap (λ n. spare cells' fresh n a) left ∙ first_spare cells' fresh (fresh - used) a (record {
+          some = nz;
+          to = omega (arith, before_fresh);
+          idle = row;
+          rest = ap (spare cells' fresh (fresh - used)) (ap (λ (u : Cell). u.next) e.here ∙ xn)
+              ∙ spare_used cells cells' fresh (a - 1) (fresh - used) free (idle_edited heads heads' cells cells' c b a (next_at cells (a - 1)) x e t.stands) (omega (arith, p.row_from)) s.spared;
+        }))
+        (omega (arith, one_there, used_from))
 
     pub put_replaced : {heads' : List ℕ} {cells' : List Cell} {v : ℕ} → 1 ≤ v → heads' ≡ heads → cells' ≡ set cells (a - 1) (recoded (cell cells (a - 1)) v) → Put rows columns used free fresh heads heads' cells cells' r c v
     put_replaced {heads'} {cells'} {v} some eh ec =
@@ -179,25 +171,7 @@ module _ {rows columns used free fresh : ℕ} {heads : List ℕ} {cells : List C
         let row : row_at cells' (a - 1) ≡ r = links.row (a - 1) ∙ hit in
         let column : column_at cells' (a - 1) ≡ c = links.column (a - 1) ∙ (t.ahead nz).0 in
         let code : code_at cells' (a - 1) ≡ v = ap (λ (u : Cell). u.code) here in
-        let many : length cells' ≡ length cells = ap length ec ∙ length-set cells (a - 1) _ in
-        let h : Changed cells cells' r c (a - 1) = record { others = λ q ne. same_of _ _ (other q ne); old = inr (hit, (t.ahead nz).0); new = inr (row, column); many = many } in
-        let holds = held_changed rows columns cells cells' r c (a - 1) v p.row_from p.row_to p.column_from p.column_to h (found_by cells' (a - 1) r c v ch.one_each row p.row_from column code) in
         let idle : Idle cells cells' (a - 1) = λ q _ z. (links.row q ∙ z, links.next q) in
-        record {
-          is_sound = record {
-            low = s.low;
-            wide = omega (arith, s.wide, ap length eh);
-            chained = ch;
-            filled = filled_changed cells cells' r c (a - 1) h s.filled (λ _. omega arith);
-            rows_to = rows_to_changed rows cells cells' r c (a - 1) h p.row_to s.rows_to;
-            lent = omega (arith, s.lent);
-            unused = unused_changed fresh fresh cells cells' r c (a - 1) h before_fresh (omega arith) s.unused;
-            begun = s.begun;
-            spared = spare_used cells cells' fresh (a - 1) (fresh - used) free idle (omega (arith, p.row_from)) s.spared;
-            counted = omega (arith, counts rows columns r c v cells cells' p holds, one_there, one_some v some, s.counted);
-          };
-          holds = holds;
-          kept = kept_changed cells cells' r c (a - 1) h p.row_from;
-          many = many;
-          wide = ap length eh;
-        }
+        put_by (a - 1) (record { others = λ q ne. same_of _ _ (other q ne); old = inr (hit, (t.ahead nz).0); new = inr (row, column); many = ap length ec ∙ length-set cells (a - 1) _ }) ch (ap length eh)
+        (found_by cells' (a - 1) r c v ch.one_each row p.row_from column code) (λ _. omega arith) before_fresh (omega arith) s.lent s.begun
+        (spare_used cells cells' fresh (a - 1) (fresh - used) free idle (omega (arith, p.row_from)) s.spared) (omega (arith, one_there, one_some v some))

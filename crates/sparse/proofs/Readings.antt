@@ -1,14 +1,11 @@
 -- What a walk along a chain tells of the matrix.
-use Rattle.std.proofs.Common.{◌≡◌, ℕ, ◌+◌, ◌-◌, ◌<◌, ◌≤◌, min, max, true, false, ◌&&◌, eqb, leb, ◌⊎◌, List, Some, None, sym, refl, ap, ◌∙◌, ⊎_elim, arith}
-use Rattle.std.proofs.lemmas.Bool.{cond-true, cond-false, ne_eqb, eq-eqb, cases_eq, cases_Bool, and_parts, leb-true}
+use Rattle.std.proofs.Common.{◌≡◌, ℕ, ◌-◌, ◌<◌, ◌≤◌, true, false, ◌&&◌, leb, List, sym, refl, ap, ◌∙◌, ⊎_elim, arith}
+use Rattle.std.proofs.lemmas.Bool.{cond-true, cond-false, cases_Bool, and_parts, leb-true}
 use Rattle.std.proofs.lemmas.Bool.Decides.{nat_tests}
 use Rattle.matrix.specs.Matrix.{inside}
-use Rattle.matrix.specs.Nonzero.{next_in, last_in}
-use Rattle.matrix.proofs.Nonzeros.{next_by, last_by}
 use Rattle.sparse.specs.declared.cell.Cell.{Cell}
-use Rattle.sparse.specs.Cells.{row_at, column_at, code_at, found, held, held_outside}
-use Rattle.sparse.specs.Chains.{row_of, Spotted, OneEach, Filled, RowsTo, code_if_of}
-use Rattle.sparse.proofs.Rows.{row_of_none, row_of_some}
+use Rattle.sparse.specs.Cells.{row_at, column_at, code_at, found, held}
+use Rattle.sparse.specs.Chains.{row_of, Spotted, OneEach, Filled, RowsTo}
 use Rattle.sparse.proofs.Found.{found_none, found_at}
 
 -- no row between the two links of a spot is held
@@ -21,17 +18,9 @@ between cells c r before at i s l h = found_none cells i c (λ q e f.
 pub found_here : (cells : List Cell) (k : ℕ) → OneEach cells → 1 ≤ row_at cells k → found cells (row_at cells k) (column_at cells k) ≡ code_at cells k
 found_here cells k one l = found_at cells _ _ k l refl refl (λ q e f. ap (code_at cells) (sym (one k q l (sym e) (sym f))))
 
-pub found_spot : (cells : List Cell) (c r before at : ℕ) → 1 ≤ r → OneEach cells → Spotted cells c r before at → found cells r c ≡ code_if_of cells r at
-found_spot cells c r before at l one s = ⊎_elim
-    (λ (e : row_of cells at ≡ r).
-    let d : at ≡ 0 → ⊥ = λ z. omega (arith, row_of_none cells at z) in
-    let here : row_at cells (at - 1) ≡ r = sym (row_of_some cells at d) ∙ e in
-    ap (λ x. found cells x c) (sym here) ∙ ap (found cells (row_at cells (at - 1))) (sym (s.ahead d).0) ∙ found_here cells (at - 1) one (omega arith)
-    ∙ sym (cond-true (eqb (row_of cells at) r) _ _ (eq-eqb _ _ e)))
-    (λ (n : row_of cells at ≡ r → ⊥).
-    between cells c r before at r s s.below (λ d. let x : row_at cells (at - 1) ≡ r → ⊥ = λ e. n (row_of_some cells at d ∙ e) in omega (arith, s.reached d, x))
-    ∙ sym (cond-false (eqb (row_of cells at) r) _ _ (ne_eqb _ _ n)))
-    (cases_eq (row_of cells at) r)
+-- the code at a place in use
+pub found_by : (cells : List Cell) (k r c v : ℕ) → OneEach cells → row_at cells k ≡ r → 1 ≤ r → column_at cells k ≡ c → code_at cells k ≡ v → found cells r c ≡ v
+found_by cells k r c v one er l ec ev = ap (λ x. found cells x c) (sym er) ∙ ap (found cells (row_at cells k)) (sym ec) ∙ found_here cells k one (omega arith) ∙ ev
 
 pub held_in : (rows columns : ℕ) (cells : List Cell) (r c : ℕ) → 1 ≤ r → r ≤ rows → 1 ≤ c → c ≤ columns → (held rows columns cells).at r c ≡ found cells r c
 held_in rows columns cells r c a b p q = cond-true (inside rows columns r c) _ _ (grind (arith, nat_tests))
@@ -47,9 +36,6 @@ held_none rows columns cells r c h = ⊎_elim
 
 pub held_past : (rows columns : ℕ) (cells : List Cell) (r c : ℕ) → (1 ≤ c → columns < c) → (held rows columns cells).at r c ≡ 0
 held_past rows columns cells r c h = cond-false (inside rows columns r c) _ _ (grind (arith, nat_tests))
-
-pub held_below : (rows columns : ℕ) (cells : List Cell) (r c : ℕ) → rows < r → (held rows columns cells).at r c ≡ 0
-held_below rows columns cells r c h = cond-false (inside rows columns r c) _ _ (grind (arith, nat_tests))
 
 -- an entry that a cell in use holds is not zero
 pub held_filled : (rows columns : ℕ) (cells : List Cell) (c k : ℕ) → OneEach cells → Filled cells → RowsTo rows cells → 1 ≤ c → c ≤ columns → 1 ≤ row_at cells k → column_at cells k ≡ c

@@ -3,9 +3,9 @@ use Rattle.std.proofs.Common.{◌≡◌, ℕ, ◌+◌, ◌-◌, ◌<◌, ◌≤�
 use Rattle.std.proofs.lemmas.Bool.{cases_eq, cases_lt}
 use Rattle.sparse.specs.declared.cell.Cell.{Cell}
 use Rattle.sparse.specs.Cells.{row_at, column_at, next_at}
-use Rattle.sparse.specs.Chains.{row_of, Chained, Spotted}
+use Rattle.sparse.specs.Chains.{Follows, row_of, Chained, Spotted}
 use Rattle.sparse.proofs.Rows.{row_of_none, row_of_some}
-use Rattle.sparse.proofs.Walks.{Follows, follows_by, first_follows, next_follows, chained_by}
+use Rattle.sparse.proofs.Walks.{follows_by, first_follows, next_follows, chained_by}
 use Rattle.sparse.proofs.Relinks.{Edited}
 
 module _ (n : ℕ) (heads heads' : List ℕ) (cells cells' : List Cell) (c r b a : ℕ) (x : Cell)

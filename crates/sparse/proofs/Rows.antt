@@ -1,6 +1,6 @@
 -- The row that a link leads to, and the places in use.
-use Rattle.std.proofs.Common.{◌≡◌, ℕ, zero, suc, ◌-◌, ◌<◌, ◌≤◌, eqb, List, [], ◌∷◌, length, ⊎_elim, arith}
-use Rattle.std.proofs.lemmas.Bool.{cond-true, cond-false, ne_eqb, eq-eqb, cases_eq}
+use Rattle.std.proofs.Common.{◌≡◌, ℕ, zero, suc, ◌-◌, ◌<◌, ◌≤◌, eqb, List, [], ◌∷◌, length, arith}
+use Rattle.std.proofs.lemmas.Bool.{cond-true, cond-false, ne_eqb, eq-eqb}
 use Rattle.sparse.specs.declared.cell.Cell.{Cell}
 use Rattle.sparse.specs.Cells.{row_at}
 use Rattle.sparse.specs.Chains.{row_of}
@@ -16,15 +16,3 @@ pub used_lt : (cells : List Cell) (k : ℕ) → 1 ≤ row_at cells k → k < len
 used_lt [] k h = absurd (omega arith)
 used_lt (x ∷ xs) zero h = omega arith
 used_lt (x ∷ xs) (suc k) h = omega (arith, used_lt xs k h)
-
--- a link that leads to a row leads to a place in use
-pub row_of_used : (cells : List Cell) (link : ℕ) → 1 ≤ row_of cells link → (link ≡ 0 → ⊥) × (1 ≤ row_at cells (link - 1))
-row_of_used cells link h =
-    let d : link ≡ 0 → ⊥ = λ e. omega (arith, row_of_none cells link e) in
-    (d, omega (arith, row_of_some cells link d))
-
-pub row_of_lt : (cells : List Cell) (link : ℕ) → 1 ≤ row_of cells link → link - 1 < length cells
-row_of_lt cells link h = used_lt cells (link - 1) (row_of_used cells link h).1
-
-pub past_last : (cells : List Cell) (k : ℕ) → length cells ≤ k → row_at cells k ≡ 0
-past_last cells k h = ⊎_elim (λ (e : row_at cells k ≡ 0). e) (λ (d : row_at cells k ≡ 0 → ⊥). absurd (omega (arith, used_lt cells k (omega (arith, d))))) (cases_eq (row_at cells k) 0)

@@ -1,15 +1,10 @@
 -- A shape begun, with no cell in use.
-use Rattle.std.proofs.Common.{◌≡◌, ℕ, ◌-◌, ◌<◌, ◌≤◌, ◌&&◌, leb, ◌⊎◌, List, length, get_or, sym, refl, ap, ◌∙◌, ⊎_elim, arith}
-use Rattle.std.proofs.lemmas.Bool.{cond-true, cond-false, and_from, and_left, and_right, le-leb, lt-leb}
-use Rattle.refusal.specs.declared.Refusal.TheVariants.{ShapeNotTaken}
-use Rattle.refusal.specs.Numbers.{number_of}
-use Rattle.refusal.specs.Outcomes.{accepted, refused}
-use Rattle.matrix.specs.Terms.{begin_outcome}
+use Rattle.std.proofs.Common.{◌≡◌, ℕ, ◌-◌, ◌<◌, ◌≤◌, List, length, get_or, sym, ap, ◌∙◌, arith}
 use Rattle.matrix.specs.Matrix.{blank, count}
 use Rattle.matrix.proofs.Matrices.{same_entries}
 use Rattle.matrix.proofs.Counts.{count_blank}
 use Rattle.sparse.specs.declared.cell.Cell.{Cell}
-use Rattle.sparse.specs.Cells.{held, sparse_terms}
+use Rattle.sparse.specs.Cells.{held}
 use Rattle.sparse.specs.Chains.{Unused, spare}
 use Rattle.sparse.specs.Sound.{Sound}
 use Rattle.sparse.proofs.Found.{found_none}

@@ -1,6 +1,6 @@
 -- The three ways of a put, as the code goes them.
-use Rattle.std.proofs.Common.{◌≡◌, ◌≢◌, ℕ, ◌+◌, ◌-◌, ◌<◌, ◌≤◌, min, cond, ◌&&◌, ◌==◌, eqb, List, length, set, sym, refl, ap, ◌∙◌, ⊎_elim, arith}
-use Rattle.std.proofs.lemmas.Bool.{cases_eq, cond-true, cond-false, eq-eqb, ne_eqb}
+use Rattle.std.proofs.Common.{◌≡◌, ◌≢◌, ℕ, ◌+◌, ◌-◌, ◌<◌, ◌≤◌, min, cond, ◌&&◌, ◌==◌, List, length, set, refl, ap, ⊎_elim, arith}
+use Rattle.std.proofs.lemmas.Bool.{cases_eq}
 use Rattle.std.proofs.lemmas.Bool.Decides.{nat_tests}
 use Rattle.matrix.specs.Matrix.{Matrix, put_at, put_into}
 use Rattle.refusal.specs.Outcomes.{Outcome, accepted, refused}
@@ -10,14 +10,14 @@ use Rattle.sparse.specs.declared.cell.Cell.{Cell}
 use Rattle.sparse.specs.declared.chains.Spare.{Spare}
 use Rattle.sparse.specs.declared.chains.Spot.{Spot}
 use Rattle.sparse.specs.declared.sparse.Sparse.{Sparse}
-use Rattle.sparse.specs.Cells.{cell, row_at, code_at, next_at, sparse_terms}
-use Rattle.sparse.specs.Chains.{row_of, recoded, linked_cells, linked_heads}
+use Rattle.sparse.specs.Cells.{cell, row_at, next_at}
+use Rattle.sparse.specs.Chains.{recoded, linked_cells, linked_heads}
 use Rattle.sparse.specs.States.{cells_of, heads_of, entry_at, Taken, Inside}
-use Rattle.sparse.proofs.Rows.{used_lt, row_of_some, row_of_used}
+use Rattle.sparse.proofs.Rows.{used_lt, row_of_some}
 use Rattle.sparse.proofs.Relinks.{edited}
-use Rattle.sparse.proofs.Locating.{entry_spot, place}
+use Rattle.sparse.proofs.Locating.{entry_here, entry_none}
 use Rattle.sparse.proofs.Takes.{taking}
-use Rattle.sparse.proofs.Puts.{Put, put_inserted, put_removed, used_from, put_replaced}
+use Rattle.sparse.proofs.Puts.{Place, Put, put_inserted, put_removed, used_from, put_replaced}
 
 same_ways : (i j r c v x : ℕ) → (i ≡ r → j ≡ c → x ≡ v) → x ≡ cond (i == r && j == c) v x
 same_ways i j r c v x h = grind (arith, nat_tests)
@@ -31,9 +31,9 @@ pub put_same : (t : Terms) (m : Matrix) (r c v : ℕ) → m.at r c ≡ v → m �
 put_same t m r c v e = left_same (put_outcome t m (put_at r c v)) m _
     (same_entries m m.at (put_into m (put_at r c v)).at (λ i j. same_ways i j r c v (m.at i j) (λ f g. rw (f, g) e)))
 
--- a put leaves the terms
-pub terms_by : {n n' w w' : ℕ} → n' ≡ n → w' ≡ w → sparse_terms n' w' ≡ sparse_terms n w
-terms_by en ew = cc
+-- the place of a spot
+pub place : {s : Sparse} {p : Spot} → Inside s p → Place s.rows s.columns p.row p.column
+place i = record { row_from = i.located.row_from; row_to = i.row_to; column_from = i.located.column_from; column_to = i.located.column_to }
 
 -- the cell that is picked is there
 pub taken_from : (s : Sparse) {l : ℕ} {left : Spare} → s.used < min (length (cells_of s)) 65535 → Taken (cells_of s) s.spare l left → (1 ≤ l) × (l ≤ length (cells_of s))
@@ -44,11 +44,10 @@ module _ (s : Sparse) {p : Spot} (i : Inside s p) where
   in_heads = omega (arith, s.sound.wide, i.located.column_to)
 
   -- an entry that is 0 has no cell
-  none_there : entry_at s p ≡ 0 → row_of (cells_of s) p.at ≢ p.row
-  none_there z e =
-      let u = row_of_used (cells_of s) p.at (omega (arith, i.located.row_from)) in
-      let code = sym (cond-true (eqb (row_of (cells_of s) p.at) p.row) (code_at (cells_of s) (p.at - 1)) 0 (eq-eqb _ _ e)) ∙ sym (entry_spot s p i.located) ∙ z in
-      omega (arith, s.sound.filled (p.at - 1) u.1, code)
+  none_there : entry_at s p ≡ 0 → p.at ≢ 0 → p.row < row_at (cells_of s) (p.at - 1)
+  none_there z d =
+      let ne : row_at (cells_of s) (p.at - 1) ≢ p.row = λ e. omega (arith, s.sound.filled (p.at - 1) (omega (arith, i.located.row_from)), entry_here s p i.located d e) in
+      omega (arith, i.located.spotted.reached d)
 
   pub insert_left : {heads' : List ℕ} {cells' : List Cell} {v l : ℕ} {left : Spare} → entry_at s p ≡ 0 → v ≢ 0 → s.used < min (length (cells_of s)) 65535 → Taken (cells_of s) s.spare l left
       → cells' ≡ linked_cells (set (cells_of s) (l - 1) (record { column = p.column; row = p.row; code = v; next = p.at })) p.before l → heads' ≡ linked_heads (heads_of s) p.column p.before l
@@ -56,29 +55,25 @@ module _ (s : Sparse) {p : Spot} (i : Inside s p) where
   insert_left {heads'} {cells'} {v} {l} {left} zero some room taken ec eh =
       let t = i.located.spotted in
       let k = taking s.sound room l left.free left.fresh taken.link_is taken.free_is taken.fresh_is in
-      let new : p.at ≢ 0 → p.row < row_at (cells_of s) (p.at - 1) = λ d. let ne : row_at (cells_of s) (p.at - 1) ≢ p.row = λ e. none_there zero (row_of_some (cells_of s) p.at d ∙ e) in omega (arith, t.reached d, ne) in
       let apart : p.before ≢ 0 → (p.before - 1 < length (cells_of s)) × (p.before - 1 ≢ l - 1) = λ d. (used_lt (cells_of s) (p.before - 1) (t.stands d).1, λ e. omega (arith, (t.stands d).1, ap (row_at (cells_of s)) e, k.idle)) in
-      put_inserted s.sound (place i) t l left.free left.fresh (record { column = p.column; row = p.row; code = v; next = p.at }) new (omega (arith, some)) k refl refl refl refl
+      put_inserted s.sound (place i) t l left.free left.fresh (record { column = p.column; row = p.row; code = v; next = p.at }) (none_there zero) (omega (arith, some)) k refl refl refl refl
       (edited (heads_of s) heads' (cells_of s) cells' p.column p.before l l _ i.located.column_from in_heads (omega (arith, k.from, k.to, k.lent)) apart ec eh)
 
   module _ (there : entry_at s p ≢ 0) where
-    row_there : row_of (cells_of s) p.at ≡ p.row
-    row_there = ⊎_elim
-        (λ (e : row_of (cells_of s) p.at ≡ p.row). e)
-        (λ (n : row_of (cells_of s) p.at ≢ p.row). absurd (there (entry_spot s p i.located ∙ cond-false (eqb (row_of (cells_of s) p.at) p.row) (code_at (cells_of s) (p.at - 1)) 0 (ne_eqb _ _ n))))
-        (cases_eq (row_of (cells_of s) p.at) p.row)
-
-    at_some : (p.at ≢ 0) × (1 ≤ row_at (cells_of s) (p.at - 1))
-    at_some = row_of_used (cells_of s) p.at (omega (arith, row_there, i.located.row_from))
+    at_some : p.at ≢ 0
+    at_some z = there (entry_none s p i.located (λ d. absurd (d z)))
 
     hit : row_at (cells_of s) (p.at - 1) ≡ p.row
-    hit = sym (row_of_some (cells_of s) p.at at_some.0) ∙ row_there
+    hit = ⊎_elim
+        (λ (e : row_at (cells_of s) (p.at - 1) ≡ p.row). e)
+        (λ (n : row_at (cells_of s) (p.at - 1) ≢ p.row). absurd (there (entry_none s p i.located (λ _. n))))
+        (cases_eq (row_at (cells_of s) (p.at - 1)) p.row)
 
     pub at_from : 1 ≤ p.at
-    at_from = omega (arith, at_some.0)
+    at_from = omega (arith, at_some)
 
     pub at_lt : p.at - 1 < length (cells_of s)
-    at_lt = used_lt (cells_of s) (p.at - 1) at_some.1
+    at_lt = used_lt (cells_of s) (p.at - 1) (omega (arith, hit, i.located.row_from))
 
     pub remove_left : {heads' : List ℕ} {cells' : List Cell} (x : Cell) → x.row ≡ 0 → x.next ≡ s.spare.free
         → cells' ≡ linked_cells (set (cells_of s) (p.at - 1) x) p.before (next_at (cells_of s) (p.at - 1)) → heads' ≡ linked_heads (heads_of s) p.column p.before (next_at (cells_of s) (p.at - 1))
@@ -86,11 +81,11 @@ module _ (s : Sparse) {p : Spot} (i : Inside s p) where
     remove_left {heads'} {cells'} x gone xn ec eh =
         let t = i.located.spotted in
         let apart : p.before ≢ 0 → (p.before - 1 < length (cells_of s)) × (p.before - 1 ≢ p.at - 1) = λ d. (used_lt (cells_of s) (p.before - 1) (t.stands d).1, λ e. omega (arith, t.below, row_of_some (cells_of s) p.before d, ap (row_at (cells_of s)) e, hit)) in
-        put_removed s.sound (place i) t at_some.0 hit x gone xn refl
+        put_removed s.sound (place i) t at_some hit x gone xn
         (edited (heads_of s) heads' (cells_of s) cells' p.column p.before p.at _ x i.located.column_from in_heads at_lt apart ec eh)
 
     pub remove_from : 1 ≤ s.used
-    remove_from = used_from s.sound (place i) i.located.spotted at_some.0 hit
+    remove_from = used_from s.sound (place i) i.located.spotted at_some hit
 
     pub replace_left : {v : ℕ} → v ≢ 0 → Put s.rows s.columns s.used s.spare.free s.spare.fresh (heads_of s) (heads_of s) (cells_of s) (set (cells_of s) (p.at - 1) (recoded (cell (cells_of s) (p.at - 1)) v)) p.row p.column v
-    replace_left some = put_replaced s.sound (place i) i.located.spotted at_some.0 hit (omega (arith, some)) refl refl
+    replace_left some = put_replaced s.sound (place i) i.located.spotted at_some hit (omega (arith, some)) refl refl

@@ -20,6 +20,10 @@ Ahead cells c r link = (link ≢ 0) → (column_at cells (link - 1) ≡ c) × (r
 abbrev pub Nearest : List Cell → ℕ → ℕ → ℕ → Type 0
 Nearest cells c r link = (q : ℕ) → column_at cells q ≡ c → r < row_at cells q → (link ≢ 0) × (row_at cells (link - 1) ≤ row_at cells q)
 
+-- the link leads to the first cell of the column past the row, if there is one
+abbrev pub Follows : List Cell → ℕ → ℕ → ℕ → Type 0
+Follows cells c r link = Ahead cells c r link × Nearest cells c r link
+
 -- every cell in use leads on in its column
 abbrev pub NextsAhead : List Cell → Type 0
 NextsAhead cells = (k : ℕ) → 1 ≤ row_at cells k → Ahead cells (column_at cells k) (row_at cells k) (next_at cells k)
@@ -77,10 +81,6 @@ pub record Spotted (cells : List Cell) (c r before at : ℕ) : Type 0 where
   pub ahead : Ahead cells c (row_of cells before) at
   pub nearest : Nearest cells c (row_of cells before) at
   pub reached : (at ≢ 0) → r ≤ row_at cells (at - 1)
-
--- the code at the link if that is the row's, else 0
-abbrev pub code_if_of : List Cell → ℕ → ℕ → ℕ
-code_if_of cells r link = cond (row_of cells link == r) (cell cells (link - 1)).code 0
 
 -- the cell with another link
 abbrev pub leading : Cell → ℕ → Cell

@@ -8,7 +8,7 @@ use Rattle.sparse.specs.declared.chains.Spot.{Spot}
 use Rattle.sparse.specs.declared.sparse.Sparse.{Sparse}
 use Rattle.sparse.specs.Cells.{held, sparse_terms}
 use Rattle.sparse.specs.Chains.{Spotted, take_link, take_free, take_fresh}
-use Rattle.sparse.specs.Puts.{Place, Kept}
+use Rattle.sparse.specs.Puts.{Kept}
 
 abbrev pub cells_of : Sparse → List Cell
 cells_of s = s.cells.now

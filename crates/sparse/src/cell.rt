@@ -1,7 +1,7 @@
 // The record of one entry of a sparse store.
 
-// An entry's place and code, and the link to the next cell of its column. A cell with row 0 is not in use.
-// Callers lend cells, so a cell has fixed numbers: a place that may lack one is marked by 0.
+// An entry's place and code, and the link to the next cell of its column. Row 0 marks a cell that is not in use, and link 0 the
+// last of a chain, since the cells are lent memory, of one size each.
 #[derive(Clone, Copy, Debug, Default)]
 pub struct Cell {
     pub(crate) column: u32,

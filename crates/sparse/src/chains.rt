@@ -1,11 +1,11 @@
-// Chains of cells, one to a column, rows rising. A link is a cell's place plus one, and 0 ends a chain, as 16 bits of lent memory hold it.
-ghost use Rattle.std.specs.Prelude.{◌≡◌, ℕ, ◌+◌, ◌-◌, ◌<◌, ◌≤◌, cond, length, ◌==◌, ◌≢◌, slice_index, slice_set};
-ghost use Rattle.sparse.specs.Cells.{row_at, next_at};
-ghost use Rattle.sparse.specs.Chains.{Leads, Walkable, Stands, Spotted, Unused, row_of, code_if_of, linked_cells, linked_heads};
+// Chains of cells, one to a column, rows rising. A link is a cell's place plus one, and 0 ends a chain.
+ghost use Rattle.std.specs.Prelude.{◌≡◌, ℕ, ◌-◌, ◌<◌, ◌≤◌, length, slice_index, slice_set};
+ghost use Rattle.sparse.specs.Chains.{Leads, Walkable, Stands, Follows, Spotted, Unused, row_of, linked_cells, linked_heads};
 
 use crate::cell::Cell;
 
 // Where a row belongs in the chain of a column: the last link below it, and the first that is not.
+// Links are kept as the lent cells hold them, with 0 for none, since an edit writes them there.
 #[derive(Clone, Copy)]
 pub(crate) struct Spot {
     pub(crate) row: u32,
@@ -14,7 +14,7 @@ pub(crate) struct Spot {
     pub(crate) at: u16,
 }
 
-// The cells that are not in use: those that were cleared, chained from `free`, and those from `fresh` on.
+// The cells that are not in use: those that were cleared, chained from the link `free`, and those from the place `fresh` on.
 #[derive(Clone, Copy, Default)]
 pub(crate) struct Spare {
     pub(crate) free: u16,
@@ -35,9 +35,9 @@ pub(crate) fn cell_at(cells: &[Cell], link: u16) -> Option<Cell>
 
 // The link after a cell of the column, or the column's first.
 fn link_after(cells: &[Cell], heads: &[u16], column: u32, before: u16) -> u16
-    requires column { (1 ≤ column) × (column ≤ length heads.now) }
+    requires chain { Walkable column heads.now cells.now }
     requires before { Stands cells.now column before }
-    ensures { result ≡ cond (before == 0) (slice_index heads.now (column - 1)) (next_at cells.now (before - 1)) }
+    ensures { Follows cells.now column (row_of cells.now before) result }
 {
     match cell_at(cells, before) {
         Some(cell) => cell.next,
@@ -53,6 +53,7 @@ pub(crate) fn seek(cells: &[Cell], heads: &[u16], row: u32, column: u32, from: u
     ensures place { (result.row ≡ row) × (result.column ≡ column) }
     ensures spotted { Spotted cells.now column row result.before result.at }
 {
+    // A walk by hand, since an iterator over the cells would not tell the link before.
     let mut before = from;
     let mut at = link_after(cells, heads, column, from);
     while let Some(cell) = cell_at(cells, at) {
@@ -70,29 +71,17 @@ pub(crate) fn seek(cells: &[Cell], heads: &[u16], row: u32, column: u32, from: u
     }
 }
 
-// The code of the spot's row, 0 where it has no cell.
-pub(crate) fn code_of(cells: &[Cell], spot: Spot) -> u16
-    requires link { (spot.at ≢ 0) → 1 ≤ row_at cells.now (spot.at - 1) }
-    requires row { 1 ≤ spot.row }
-    ensures { result ≡ code_if_of cells.now spot.row spot.at }
-{
-    match cell_at(cells, spot.at) {
-        Some(cell) if cell.row as u32 == spot.row => cell.code,
-        _ => 0,
-    }
-}
-
-// Takes the first so many cells, past which none is in use, out of use, and empties the first so many chains.
-pub(crate) fn clear(cells: &mut [Cell], used: usize, heads: &mut [u16], columns: usize)
-    requires used { used ≤ length cells.old }
-    requires past { Unused used cells.old }
+// Takes the cells before the place `fresh`, from which on none is in use, out of use, and empties the first so many chains.
+pub(crate) fn clear(cells: &mut [Cell], fresh: usize, heads: &mut [u16], columns: usize)
+    requires fresh { fresh ≤ length cells.old }
+    requires past { Unused fresh cells.old }
     requires columns { columns ≤ length heads.old }
     ensures cells { Unused 0 cells.new }
     ensures heads { (k : ℕ) → k < columns → slice_index heads.new k ≡ 0 }
     ensures many { length cells.new ≡ length cells.old }
     ensures wide { length heads.new ≡ length heads.old }
 {
-    cells[..used].fill(Cell::default());
+    cells[..fresh].fill(Cell::default());
     heads[..columns].fill(0);
 }
 

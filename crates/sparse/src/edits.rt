@@ -17,20 +17,20 @@ impl<'a> Sparse<'a> {
     {
         let Spare { free, fresh } = self.spare;
         match self.cell(free) {
-            Some(cell) => {
-                let left = Spare {
+            Some(cell) => (
+                free,
+                Spare {
                     free: cell.next,
                     fresh,
-                };
-                (free, left)
-            }
-            None => {
-                let left = Spare {
+                },
+            ),
+            None => (
+                fresh + 1,
+                Spare {
                     free: 0,
                     fresh: fresh + 1,
-                };
-                (fresh + 1, left)
-            }
+                },
+            ),
         }
     }
 

@@ -6,8 +6,8 @@ use Rattle.sparse.proofs.sparse.Sparse.idle.Goals as goal
 pub cell-requires : goal.cell-requires
 cell-requires c = take_free_to c.args.self.now.sound
 
-pub overflow_add-left : goal.overflow_add-left
-overflow_add-left c = omega (arith, take_fresh_to c.args.self.now.sound c.requires c.in-None.ensures)
+pub overflow_add-result-in-None : goal.overflow_add-result-in-None
+overflow_add-result-in-None c = omega (arith, take_fresh_to c.args.self.now.sound c.requires c.in-None.ensures)
 
 pub overflow_add-result : goal.overflow_add-result
 overflow_add-result c = omega (arith, take_fresh_to c.args.self.now.sound c.requires c.in-None.ensures)

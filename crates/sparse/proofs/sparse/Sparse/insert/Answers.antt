@@ -1,6 +1,6 @@
 -- The cell that is taken was out of use, and stands where the row belongs.
 use Rattle.std.proofs.Common.{refl}
-use Rattle.sparse.proofs.Steps.{taken_from, insert_left, terms_by}
+use Rattle.sparse.proofs.Steps.{taken_from, insert_left}
 use Rattle.sparse.proofs.sparse.Sparse.insert.Goals as goal
 
 pub edit-requires-clause-link : goal.edit-requires-clause-link
@@ -15,4 +15,4 @@ pub returns : goal.returns
 returns c =
     let h = c.requires in
     let p = insert_left c.args.self.now h.spot h.none h.code h.room c.idle-link.ensures c.edit.ensures.cells c.edit.ensures.heads in
-    record { holds = p.holds; stays = record { rows = refl; columns = refl; terms = terms_by p.many p.wide; kept = p.kept } }
+    record { holds = p.holds; stays = record { rows = refl; columns = refl; terms = p.terms; kept = p.kept } }

@@ -1,6 +1,6 @@
 -- The cell before leads on to the one after.
 use Rattle.std.proofs.Common.{refl, arith}
-use Rattle.sparse.proofs.Steps.{at_from, at_lt, remove_left, remove_from, terms_by}
+use Rattle.sparse.proofs.Steps.{at_from, at_lt, remove_left, remove_from}
 use Rattle.sparse.proofs.sparse.Sparse.remove.Goals as goal
 
 pub overflow_sub-next : goal.overflow_sub-next
@@ -22,4 +22,4 @@ invariant_of-self c =
 pub returns : goal.returns
 returns c =
     let p = remove_left c.args.self.now c.requires.spot c.requires.there _ (omega (arith, c.default.ensures.1.0)) refl c.edit.ensures.cells c.edit.ensures.heads in
-    record { holds = p.holds; stays = record { rows = refl; columns = refl; terms = terms_by p.many p.wide; kept = p.kept } }
+    record { holds = p.holds; stays = record { rows = refl; columns = refl; terms = p.terms; kept = p.kept } }

@@ -1,6 +1,6 @@
 -- Only a code is changed.
 use Rattle.std.proofs.Common.{refl}
-use Rattle.sparse.proofs.Steps.{at_from, at_lt, replace_left, terms_by}
+use Rattle.sparse.proofs.Steps.{at_from, at_lt, replace_left}
 use Rattle.sparse.proofs.sparse.Sparse.replace.Goals as goal
 
 pub overflow_sub-self : goal.overflow_sub-self
@@ -15,4 +15,4 @@ invariant_of-self c = record { sound = (replace_left c.args.self.now c.requires.
 pub returns : goal.returns
 returns c =
     let p = replace_left c.args.self.now c.requires.spot c.requires.there c.requires.code in
-    record { holds = p.holds; stays = record { rows = refl; columns = refl; terms = terms_by p.many p.wide; kept = p.kept } }
+    record { holds = p.holds; stays = record { rows = refl; columns = refl; terms = p.terms; kept = p.kept } }
