@@ -1,5 +1,6 @@
 -- The odd primes from 3 to 251: what they are, a test that computes them, and what making a field of one comes to.
-use Rattle.std.specs.Prelude.{ℕ, ◌-◌, ◌%◌, ◌<◌, ◌≤◌, Bool, cond, not, ◌&&◌, ◌==◌, ◌≢◌, nat_le}
+use Rattle.std.specs.Prelude.{◌≡◌, ℕ, ◌-◌, ◌%◌, ◌<◌, ◌≤◌, Bool, cond, not, ◌&&◌, ◌==◌, ◌≢◌, nat_le}
+use Rattle.std.specs.Coded.{le_prop}
 use Rattle.std.specs.List.{list_all, range_with_len}
 use Rattle.refusal.specs.declared.Refusal.TheVariants.{NotOddPrime}
 use Rattle.refusal.specs.Numbers.{number_of}
@@ -13,6 +14,14 @@ pub record OddPrime (p : ℕ) : Type 0 where
   pub least : 3 ≤ p
   pub most : p ≤ 251
   pub prime : Indivisible p
+
+-- a number is an odd prime in one way only, so that a field can carry the fact
+pub OddPrime-prop : (p : ℕ) → IsProp (OddPrime p)
+OddPrime-prop p a b = λ i. record {
+  least = le_prop a.least b.least i;
+  most = le_prop a.most b.most i;
+  prime = λ d two less e. (let same : a.prime d two less e ≡ b.prime d two less e = absurd (a.prime d two less e) in same i);
+}
 
 -- the test for one, by trial division
 abbrev pub odd_prime_of : ℕ → Bool

@@ -1,8 +1,8 @@
 // The field of the numbers modulo an odd prime.
-ghost use Rattle.std.specs.Prelude.{◌≡◌, ◌≤◌, Ok, MatchResult};
+ghost use Rattle.std.specs.Prelude.{◌≡◌, Ok, MatchResult};
 ghost use Rattle.refusal.specs.Outcomes.{outcome};
 ghost use Rattle.field.specs.Divisors.{Bezout};
-ghost use Rattle.field.specs.Primes.{Indivisible, OddPrime, odd_prime_of, modulus};
+ghost use Rattle.field.specs.Primes.{OddPrime, OddPrime-prop, odd_prime_of, modulus};
 ghost use Rattle.field.specs.Residues.{prime_field, HalfModulo251};
 ghost use Rattle.field.specs.ResidueLaws.{prime_laws};
 
@@ -12,9 +12,7 @@ use refusal::Refusal;
 #[derive(Clone, Copy, Debug)]
 pub struct GfP {
     p: u16,
-    ghost least: { 3 ≤ p },
-    ghost most: { p ≤ 251 },
-    ghost prime: { Indivisible p },
+    ghost odd_prime: { OddPrime p } by { OddPrime-prop p },
 }
 
 impl GfP {
@@ -54,7 +52,7 @@ fn extended_gcd(a: u16, b: u16) -> (u16, i32, i32)
 impl Field for GfP {
     ghost arithmetic = { λ f. prime_field f.p };
 
-    ghost laws = { λ f. prime_laws f.p (record { least = f.least; most = f.most; prime = f.prime }) };
+    ghost laws = { λ f. prime_laws f.p f.odd_prime };
 
     fn order(&self) -> u32 {
         self.p as u32

@@ -38,7 +38,7 @@ impl Field for AnyField {
 
     ghost laws = { elim [
       | Two f ↦ binary_laws
-      | Prime f ↦ prime_laws f.p (record { least = f.least; most = f.most; prime = f.prime })
+      | Prime f ↦ prime_laws f.p f.odd_prime
       | Four f ↦ four_laws
       | Nine f ↦ nine_laws
     ] };
