@@ -6,6 +6,8 @@ ghost use Rattle.checking.specs.Equations.{along, weighted, system_in, solves as
 use field::Field;
 use matrix::grid::Grid;
 
+// Rows and columns are counted from 1. The ranges below are half-open, since the checker knows no items of an inclusive one.
+
 #[derive(Clone, Copy)]
 enum Line {
     Row(u32),

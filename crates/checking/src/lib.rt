@@ -25,8 +25,8 @@ mod equations;
 mod tests;
 mod verdict;
 
-// Do the codes at the front of the list form the filling or the block that is claimed? A list of zeros does not. Refused if the list is too short for a
-// code for each triangle or edge, and if one of those codes is none of the field's.
+// Do the codes at the front of the list form the filling or the block that is claimed? A list of zeros does not. Refused if the
+// list is too short for a code for each triangle or edge, and if one of those codes is none of the field's.
 pub fn check<F: Field>(
     survey: &Survey,
     on: &SensorSet,

@@ -24,8 +24,11 @@ OddPrime-prop p a b = λ i. record {
 }
 
 -- the test for one, by trial division
+abbrev pub indivisible : ℕ → Bool
+indivisible p = list_all (λ d. not (p % d == 0)) (range_with_len 2 (p - 2))
+
 abbrev pub odd_prime_of : ℕ → Bool
-odd_prime_of p = nat_le 3 p && nat_le p 251 && list_all (λ d. not (p % d == 0)) (range_with_len 2 (p - 2))
+odd_prime_of p = nat_le 3 p && nat_le p 251 && indivisible p
 
 -- the modulus of a field that is asked for
 abbrev pub modulus : ℕ → Outcome ℕ

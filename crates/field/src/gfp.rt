@@ -2,7 +2,7 @@
 ghost use Rattle.std.specs.Prelude.{◌≡◌, Ok, MatchResult};
 ghost use Rattle.refusal.specs.Outcomes.{outcome};
 ghost use Rattle.field.specs.Divisors.{Bezout};
-ghost use Rattle.field.specs.Primes.{OddPrime, OddPrime-prop, odd_prime_of, modulus};
+ghost use Rattle.field.specs.Primes.{OddPrime, OddPrime-prop, indivisible, odd_prime_of, modulus};
 ghost use Rattle.field.specs.Residues.{prime_field, HalfModulo251};
 ghost use Rattle.field.specs.ResidueLaws.{prime_laws};
 
@@ -29,11 +29,18 @@ impl GfP {
     }
 }
 
-// Whether p is an odd prime from 3 to 251, by trial division.
+// Whether p is an odd prime from 3 to 251.
 fn is_odd_prime(p: u16) -> bool
     ensures { result ≡ odd_prime_of p }
 {
-    (3..=251).contains(&p) && (2..p).all(|d| p % d != 0)
+    (3..=251).contains(&p) && is_indivisible(p)
+}
+
+// Whether no number from 2 to p - 1 divides p, by trial division.
+fn is_indivisible(p: u16) -> bool
+    ensures { result ≡ indivisible p }
+{
+    (2..p).all(|d| p % d != 0)
 }
 
 // The greatest common divisor of a and b, with x and y such that a x + b y comes to it.
