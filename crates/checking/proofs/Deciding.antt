@@ -13,8 +13,8 @@ use Rattle.complex.specs.Systems.{Vector, System}
 use Rattle.homology.specs.Certificate.{vector}
 use Rattle.homology.specs.Linear.{Codes, total}
 use Rattle.homology.proofs.Totals.{total_zero}
-use Rattle.checking.specs.declared.Claim.{Claim}
-use Rattle.checking.specs.declared.Claim.TheVariants.{Filling, Block}
+use Rattle.homology.specs.declared.kind.Kind.{Kind}
+use Rattle.homology.specs.declared.kind.Kind.TheVariants.{Filling, Block}
 use Rattle.checking.specs.Claims.{has_outside_of, has_nonzero_of, claimed, forms, verdict}
 use Rattle.checking.specs.Theorems.{Forms, Decided, CheckDecides}
 use Rattle.checking.proofs.Agreeing.{agree_true, agree_from}
@@ -23,17 +23,17 @@ use Rattle.checking.proofs.Verdicts.{verdict_formed}
 
 -- the test and what it tests
 module _ (F : Arithmetic) (S : System) where
-  forms_true : (claim : Claim) (x : Vector) → Codes F x → forms F S claim x ≡ true → Forms F S claim x
+  forms_true : (claim : Kind) (x : Vector) → Codes F x → forms F S claim x ≡ true → Forms F S claim x
   forms_true Filling x codes e = record { codes = codes; reaches = agree_true S.rows _ _ e }
   forms_true Block y codes e =
       let parts = and_parts _ _ e in
       record { codes = codes; closed = agree_true S.columns _ _ parts.0; one = eqb-true _ 1 parts.1 }
 
-  forms_from : (claim : Claim) (x : Vector) → Forms F S claim x → forms F S claim x ≡ true
+  forms_from : (claim : Kind) (x : Vector) → Forms F S claim x → forms F S claim x ≡ true
   forms_from Filling x h = agree_from S.rows _ _ h.reaches
   forms_from Block y h = and_from _ _ (agree_from S.columns _ _ h.closed) (eq-eqb _ 1 h.one)
 
-  forms_codes : (claim : Claim) (x : Vector) → Forms F S claim x → Codes F x
+  forms_codes : (claim : Kind) (x : Vector) → Forms F S claim x → Codes F x
   forms_codes Filling x h = h.codes
   forms_codes Block y h = h.codes
 
@@ -66,7 +66,7 @@ module _ (s : Survey) (on : Sensors) (F : Arithmetic) (f : FieldLaws F) (valid :
   weighed_zero : (n : ℕ) (x d : Vector) → ((i : ℕ) → x i ≡ 0) → total F n (λ i. F.product (x i) (d i)) ≡ 0
   weighed_zero n x d z = total_zero F f n _ (λ i _ _. ap (λ k. F.product k (d i)) (z i) ∙ zero_product_code F f (d i))
 
-  zeros_form_nothing : (claim : Claim) (x : Vector) → ((i : ℕ) → x i ≡ 0) → Forms F (system s on F) claim x → ⊥
+  zeros_form_nothing : (claim : Kind) (x : Vector) → ((i : ℕ) → x i ≡ 0) → Forms F (system s on F) claim x → ⊥
   zeros_form_nothing Filling x z h = fence_not_zero s valid on keeps F f (All-from_get_or _ (edges s on) no_edge (λ i l.
       let place : suc i - 1 ≡ i = omega arith in
       subst (λ j. fence_entry F s.fence (get_or (edges s on) j no_edge) ≡ 0) place
@@ -75,7 +75,7 @@ module _ (s : Survey) (on : Sensors) (F : Arithmetic) (f : FieldLaws F) (valid :
       let one : ◌≡◌ {A = ℕ} 0 1 = sym (weighed_zero (system s on F).rows y (system s on F).target z) ∙ h.one in
       omega arith
 
-module _ (s : Survey) (on : Sensors) (F : Arithmetic) (f : FieldLaws F) (claim : Claim) (codes : List ℕ) where
+module _ (s : Survey) (on : Sensors) (F : Arithmetic) (f : FieldLaws F) (claim : Kind) (codes : List ℕ) where
   abbrev S : System
   S = system s on F
 
@@ -103,8 +103,8 @@ module _ (s : Survey) (on : Sensors) (F : Arithmetic) (f : FieldLaws F) (claim :
     yes = λ e. (let t = tests true e in forms_true F S claim (vector front) (vector_codes F f front t.0) (and_parts _ _ t.1).1);
     no = not_formed;
     no_fenced = λ valid keeps e h. not_formed e (some_nonzero valid keeps h) h;
-    all_fenced = λ valid keeps enough h. sym (verdict_formed F S claim codes _ enough refl front true
-        (sym (none_outside F f front (λ i. forms_codes F S claim (vector front) h (suc i)))) (sym (some_nonzero valid keeps h)) (sym (forms_from F S claim (vector front) h)) refl);
+    all_fenced = λ valid keeps enough h. sym (verdict_formed F S claim codes _ enough refl true
+        (sym (none_outside F f front (λ i. forms_codes F S claim (vector front) h (suc i)))) (sym (some_nonzero valid keeps h)) (sym (forms_from F S claim (vector front) h)));
   }
 
 pub check_decides_lem : CheckDecides

@@ -1,5 +1,4 @@
 -- Lemmas of the crate.
-mod Searches
 mod Terms
 mod Agreeing
 mod Starting

@@ -1,21 +1,27 @@
 -- The equations of a system, read off its starting matrix.
-use Rattle.std.proofs.Common.{◌≡◌, ℕ, suc, ◌+◌, ◌≤◌, Bool, true, ◌&&◌, eqb, List, length, sym, refl, ap, ◌∙◌, ap₂, arith}
+use Rattle.std.proofs.Common.{◌≡◌, ℕ, suc, ◌+◌, ◌≤◌, cond, ◌&&◌, eqb, ltb, List, length, take, refl, ap, ◌∙◌, ap₂, arith}
 use Rattle.std.proofs.lemmas.Bool.{and_from, le-leb, cond-true}
+use Rattle.refusal.specs.declared.Refusal.TheVariants.{TooShort, NotACode}
+use Rattle.refusal.specs.Numbers.{number_of}
+use Rattle.refusal.specs.Outcomes.{accepted, refused}
 use Rattle.field.specs.Arithmetic.{Arithmetic, FieldLaws}
 use Rattle.matrix.specs.Matrix.{Matrix}
 use Rattle.survey.specs.declared.edge.Edge.{Edge}
 use Rattle.survey.specs.declared.edge.Triangle.{Triangle}
-use Rattle.complex.specs.Boundaries.{listed_system}
+use Rattle.survey.specs.Surveys.{Survey, Sensors, edges, triangles, everyone}
+use Rattle.complex.specs.Boundaries.{listed_system, system}
 use Rattle.complex.specs.Grids.{usable_edges_of, usable_triangles_of}
-use Rattle.complex.specs.Orders.{ascends, edge_less}
+use Rattle.complex.proofs.Ascents.{listings_ascend_lem}
 use Rattle.complex.specs.Systems.{Vector, System, starting, starting_matrix}
+use Rattle.homology.specs.Certificate.{vector}
 use Rattle.homology.proofs.Columns.{starting_entry, starting_target}
 use Rattle.homology.proofs.Totals.{total_same}
-use Rattle.checking.specs.declared.Claim.{Claim}
-use Rattle.checking.specs.declared.Claim.TheVariants.{Filling, Block}
-use Rattle.checking.specs.Claims.{forms}
+use Rattle.homology.specs.declared.kind.Kind.{Kind}
+use Rattle.homology.specs.declared.kind.Kind.TheVariants.{Filling, Block}
+use Rattle.checking.specs.Claims.{has_outside_of, has_nonzero_of, size, forms, verdict}
 use Rattle.checking.specs.Equations.{solves, separates, system_in}
 use Rattle.checking.proofs.Agreeing.{agree_same}
+use Rattle.checking.proofs.Tables.{few_edges, few_triangles}
 
 module _ (F : Arithmetic) (f : FieldLaws F) (S : System) where
   target_at : (r : ℕ) → 1 ≤ r → r ≤ S.rows → starting S r (S.columns + 1) ≡ S.target r
@@ -30,23 +36,29 @@ module _ (F : Arithmetic) (f : FieldLaws F) (S : System) where
       ap₂ ◌&&◌ (agree_same S.columns _ _ _ _ (λ t a b. total_same F f S.rows _ _ (λ r l m. ap (F.product (y r)) (starting_entry S r t l m a b))) (λ t a b. refl))
       (ap (λ n. eqb n 1) (total_same F f S.rows _ _ (λ r l m. ap (F.product (y r)) (target_at r l m))))
 
-  -- what the tests on a grid tell that holds the starting matrix, with as many codes as the claim takes
-  pub forms_filling : (claim : Claim) (m : Matrix) (n : ℕ) (x : Vector) (b : Bool) → claim ≡ Filling → m ≡ starting_matrix S → n ≡ S.columns
-      → b ≡ solves F (system_in S.rows n m) x → b ≡ forms F S claim x
-  forms_filling claim m n x b e h k t =
-      t ∙ ap₂ (λ n m. solves F (system_in S.rows n m) x) k h ∙ solves_starting x ∙ ap (λ claim. forms F S claim x) (sym e)
+  forms_starting : (claim : Kind) (x : Vector) → forms F (system_in S.rows S.columns (starting_matrix S)) claim x ≡ forms F S claim x
+  forms_starting Filling x = solves_starting x
+  forms_starting Block y = separates_starting y
 
-  pub forms_block : (claim : Claim) (m : Matrix) (n : ℕ) (y : Vector) (b : Bool) → claim ≡ Block → m ≡ starting_matrix S → n ≡ S.rows
-      → b ≡ separates F (system_in n S.columns m) y → b ≡ forms F S claim y
-  forms_block claim m n y b e h k t =
-      t ∙ ap₂ (λ n m. separates F (system_in n S.columns m) y) k h ∙ separates_starting y ∙ ap (λ claim. forms F S claim y) (sym e)
+  pub verdict_starting : (claim : Kind) (codes : List ℕ) → verdict F (system_in S.rows S.columns (starting_matrix S)) claim codes ≡ verdict F S claim codes
+  verdict_starting claim codes =
+      let front = take (size claim S.rows S.columns) codes in
+      ap (λ b. cond (ltb (length codes) (size claim S.rows S.columns)) (refused (number_of TooShort))
+      (cond (has_outside_of F front) (refused (number_of NotACode)) (accepted (has_nonzero_of front && b))))
+      (forms_starting claim (vector front))
 
--- a grid uses lists that ascend and are short enough
-pub starting_usable : (minus code : ℕ) (es : List Edge) (ts : List Triangle) (fence : List ℕ) (m : Matrix)
-    → length es ≤ 512 → length ts ≤ 1024 → ascends edge_less es ≡ true → code ≡ minus
-    → m ≡ starting_matrix (listed_system code (usable_edges_of es) (usable_triangles_of ts) fence) → m ≡ starting_matrix (listed_system minus es ts fence)
-starting_usable minus code es ts fence m few_edges few_triangles rising same holds =
-    holds
-    ∙ ap (λ k. starting_matrix (listed_system k (usable_edges_of es) (usable_triangles_of ts) fence)) same
-    ∙ ap₂ (λ us vs. starting_matrix (listed_system minus us vs fence))
-    (cond-true _ _ _ (and_from _ _ (le-leb _ _ few_edges) rising)) (cond-true _ _ _ (le-leb _ _ few_triangles))
+-- a grid of a survey's lists holds its starting matrix
+module _ (s : Survey) (on : Sensors) (F : Arithmetic) (links : length (edges s everyone) ≤ 512) (thirds : length (triangles s everyone) ≤ 1024) where
+  edges_usable : usable_edges_of (edges s on) ≡ edges s on
+  edges_usable = cond-true _ _ _ (and_from _ _ (le-leb _ _ (few_edges s on links)) (listings_ascend_lem s on).0)
+
+  triangles_usable : usable_triangles_of (triangles s on) ≡ triangles s on
+  triangles_usable = cond-true _ _ _ (le-leb _ _ (few_triangles s on thirds))
+
+  pub starting_usable : (es : List Edge) (ts : List Triangle) (fence : List ℕ) (minus : ℕ) (m : Matrix)
+      → es ≡ edges s on → ts ≡ triangles s on → fence ≡ s.fence → minus ≡ F.negative 1
+      → m ≡ starting_matrix (listed_system minus (usable_edges_of es) (usable_triangles_of ts) fence) → m ≡ starting_matrix (system s on F)
+  starting_usable es ts fence minus m e t f n holds =
+      holds
+      ∙ ap₂ (λ es ts. starting_matrix (listed_system minus es ts fence)) (ap usable_edges_of e ∙ edges_usable) (ap usable_triangles_of t ∙ triangles_usable)
+      ∙ ap₂ (λ fence minus. starting_matrix (listed_system minus (edges s on) (triangles s on) fence)) f n

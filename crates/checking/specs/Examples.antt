@@ -6,7 +6,7 @@ use Rattle.refusal.specs.Outcomes.{accepted, refused}
 use Rattle.field.specs.Residues.{prime_field}
 use Rattle.survey.specs.Surveys.{everyone}
 use Rattle.homology.specs.Examples.{hub, corners}
-use Rattle.checking.specs.declared.Claim.TheVariants.{Filling, Block}
+use Rattle.homology.specs.declared.kind.Kind.TheVariants.{Filling, Block}
 use Rattle.checking.specs.Claims.{checked}
 
 pub record HubChecks : Type 0 where

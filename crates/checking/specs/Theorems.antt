@@ -8,16 +8,16 @@ use Rattle.complex.specs.Boundaries.{system}
 use Rattle.complex.specs.Systems.{Vector, System}
 use Rattle.homology.specs.Certificate.{vector}
 use Rattle.homology.specs.Linear.{Solution, Separator}
-use Rattle.checking.specs.declared.Claim.{Claim}
-use Rattle.checking.specs.declared.Claim.TheVariants.{Filling, Block}
+use Rattle.homology.specs.declared.kind.Kind.{Kind}
+use Rattle.homology.specs.declared.kind.Kind.TheVariants.{Filling, Block}
 use Rattle.checking.specs.Claims.{has_nonzero_of, size, claimed, checked}
 
 -- what is claimed: a solution of the system, or a separator
-abbrev pub Forms : Arithmetic → System → Claim → Vector → Type 0
+abbrev pub Forms : Arithmetic → System → Kind → Vector → Type 0
 Forms F S Filling x = Solution F S x
 Forms F S Block y = Separator F S y
 
-module _ (s : Survey) (on : Sensors) (F : Arithmetic) (claim : Claim) (codes : List ℕ) where
+module _ (s : Survey) (on : Sensors) (F : Arithmetic) (claim : Kind) (codes : List ℕ) where
   -- the codes form the filling or the block that is claimed
   abbrev pub Formed : Type 0
   Formed = Forms F (system s on F) claim (vector (claimed (system s on F) claim codes))
@@ -32,4 +32,4 @@ module _ (s : Survey) (on : Sensors) (F : Arithmetic) (claim : Claim) (codes : L
         → checked s on F claim codes ≡ accepted true
 
 abbrev pub CheckDecides : Type 0
-CheckDecides = (s : Survey) (on : Sensors) (F : Arithmetic) → FieldLaws F → (claim : Claim) (codes : List ℕ) → Decided s on F claim codes
+CheckDecides = (s : Survey) (on : Sensors) (F : Arithmetic) → FieldLaws F → (claim : Kind) (codes : List ℕ) → Decided s on F claim codes

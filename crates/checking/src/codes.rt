@@ -8,22 +8,12 @@ use field::Field;
 pub(crate) fn has_outside<F: Field>(field: &F, codes: &[u16]) -> bool
     ensures { result ≡ has_outside_of (F.arithmetic field.now) codes.now }
 {
-    for code in codes {
-        if *code as u32 >= field.order() {
-            return true;
-        }
-    }
-    false
+    codes.iter().any(|code| *code as u32 >= field.order())
 }
 
 // Is one of them not 0?
 pub(crate) fn has_nonzero(codes: &[u16]) -> bool
     ensures { result ≡ has_nonzero_of codes.now }
 {
-    for code in codes {
-        if *code != 0 {
-            return true;
-        }
-    }
-    false
+    codes.iter().any(|code| *code != 0)
 }

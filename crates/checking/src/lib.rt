@@ -5,51 +5,33 @@ ghost use Rattle.std.specs.Prelude.{◌≡◌};
 ghost use Rattle.refusal.specs.Outcomes.{outcome};
 ghost use Rattle.survey.specs.Plans.{survey_of};
 ghost use Rattle.survey.specs.Sets.{set_of};
-ghost use Rattle.checking.specs.Claims.{checked, size as size_of};
+ghost use Rattle.checking.specs.Claims.{checked};
 ghost use Rattle.checking.specs.Examples.{HubChecks};
 ghost use Rattle.checking.specs.Theorems.{CheckDecides};
 
+use complex::boundary_grid::BoundaryGrid;
 use complex::listing::{list_edges, list_triangles};
 use field::Field;
-use listed::check_listed;
+use homology::kind::Kind;
 use refusal::Refusal;
 use survey::edge::{Edge, Triangle};
 use survey::plan::Survey;
 use survey::sensor_set::SensorSet;
+use verdict::judge;
 
 mod codes;
 mod equations;
-mod listed;
 #[cfg(test)]
 mod tests;
+mod verdict;
 
-#[derive(Clone, Copy, Debug, PartialEq, Eq)]
-pub enum Claim {
-    // a coefficient for each triangle
-    Filling,
-    // a value for each edge
-    Block,
-}
-
-impl Claim {
-    // How many codes it takes where there are so many edges and triangles.
-    pub(crate) fn size(self, edges: usize, triangles: usize) -> usize
-        ensures { result ≡ size_of self edges triangles }
-    {
-        match self {
-            Claim::Filling => triangles,
-            Claim::Block => edges,
-        }
-    }
-}
-
-// Do the codes at the front of the list form what is claimed? A list of zeros does not. Refused if the list is too short for a
-// code for each triangle or edge, and if one of those codes is none of the field's.
+// Do the codes at the front of the list form the filling or the block that is claimed? A list of zeros does not. Refused if the
+// list is too short for a code for each triangle or edge, and if one of those codes is none of the field's.
 pub fn check<F: Field>(
     survey: &Survey,
     on: &SensorSet,
     field: &F,
-    claim: Claim,
+    claim: Kind,
     codes: &[u16],
 ) -> Result<bool, Refusal>
     ensures { outcome (λ yes. yes) result ≡ checked (survey_of survey.now) (set_of on.now) (F.arithmetic field.now) claim codes.now }
@@ -58,11 +40,17 @@ pub fn check<F: Field>(
     let mut triangles = [Triangle { a: 0, b: 0, c: 0 }; 1024];
     let edge_count = list_edges(survey, on, &mut edges)?;
     let triangle_count = list_triangles(survey, on, &mut triangles)?;
-    check_listed(
-        &edges[0..edge_count],
-        &triangles[0..triangle_count],
+    let grid = BoundaryGrid::new(
+        &edges[..edge_count],
+        &triangles[..triangle_count],
         survey.fence(),
+        field.negative(1),
+    );
+    judge(
         field,
+        &grid,
+        edge_count as u32,
+        triangle_count as u32,
         claim,
         codes,
     )

@@ -1,6 +1,7 @@
 // Claims for nineteen sensors, all linked, with a fence of three.
-use crate::{Claim, check};
+use crate::check;
 use field::gf2::Gf2;
+use homology::kind::Kind;
 use refusal::Refusal;
 use std::test::Fail;
 use survey::neighbours::Neighbours;
@@ -25,25 +26,19 @@ fn one_triangle_fills_a_fence_of_three(rt: HostRuntime) -> Result<(), Fail> {
     let survey = nineteen()?;
     let on = survey.all();
     let mut codes = [0u16; 970];
-    assert_eq!(rt;
-        check(&survey, &on, &Gf2, Claim::Filling, &codes),
-        Ok(false)
-    );
+    assert_eq!(rt; check(&survey, &on, &Gf2, Kind::Filling, &codes), Ok(false));
     codes[0] = 1;
     codes[969] = 2;
-    assert_eq!(rt; check(&survey, &on, &Gf2, Claim::Filling, &codes), Ok(true));
+    assert_eq!(rt; check(&survey, &on, &Gf2, Kind::Filling, &codes), Ok(true));
     codes[968] = 1;
-    assert_eq!(rt;
-        check(&survey, &on, &Gf2, Claim::Filling, &codes),
-        Ok(false)
-    );
+    assert_eq!(rt; check(&survey, &on, &Gf2, Kind::Filling, &codes), Ok(false));
     codes[968] = 2;
     assert_eq!(rt;
-        check(&survey, &on, &Gf2, Claim::Filling, &codes),
+        check(&survey, &on, &Gf2, Kind::Filling, &codes),
         Err(Refusal::NotACode)
     );
     assert_eq!(rt;
-        check(&survey, &on, &Gf2, Claim::Filling, &codes[0..968]),
+        check(&survey, &on, &Gf2, Kind::Filling, &codes[0..968]),
         Err(Refusal::TooShort)
     );
     Ok(())
@@ -54,8 +49,8 @@ fn one_triangle_fills_a_fence_of_three(rt: HostRuntime) -> Result<(), Fail> {
 fn a_value_on_one_edge_is_a_block(rt: HostRuntime) -> Result<(), Fail> {
     let survey = nineteen()?;
     let on = SensorSet::empty().with(1).with(2);
-    assert_eq!(rt; check(&survey, &on, &Gf2, Claim::Block, &[1]), Ok(true));
-    assert_eq!(rt; check(&survey, &on, &Gf2, Claim::Block, &[0]), Ok(false));
-    assert_eq!(rt; check(&survey, &on, &Gf2, Claim::Filling, &[]), Ok(false));
+    assert_eq!(rt; check(&survey, &on, &Gf2, Kind::Block, &[1]), Ok(true));
+    assert_eq!(rt; check(&survey, &on, &Gf2, Kind::Block, &[0]), Ok(false));
+    assert_eq!(rt; check(&survey, &on, &Gf2, Kind::Filling, &[]), Ok(false));
     Ok(())
 }

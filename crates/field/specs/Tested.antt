@@ -1,11 +1,12 @@
 -- A small arithmetic is a field, by a test of all its codes.
 use Rattle.std.specs.Prelude.{◌≡◌, ℕ, zero, suc, ◌<◌, Bool, true, ◌&&◌, ◌||◌, List, [], ◌∷◌, ◌==◌, nat_eq, nat_le, nat_lt}
-use Rattle.std.proofs.Common.{ap, ◌∙◌, arith}
+use Rattle.std.proofs.Common.{sym, ap, ◌∙◌, arith}
 use Rattle.std.proofs.Math.Logic.{⊎_elim}
-use Rattle.std.proofs.lemmas.Bool.{and_parts, or_cases, ltb-true, leb-true, eqb-true, cases_eq}
+use Rattle.std.proofs.lemmas.Bool.{and_parts, or_cases, ltb-true, leb-true, eqb-true, cases_eq, cases_lt}
 use Rattle.field.specs.Arithmetic.{Arithmetic}
 use Rattle.field.specs.Counting.{all}
-use Rattle.field.specs.Guarding.{CodeLaws}
+use Rattle.field.specs.Guarded.{guarded, guarded₂}
+use Rattle.field.specs.Guarding.{CodeLaws, inside, outside, inside₂, outside_left, outside_right}
 
 -- every pair, and every triple, of numbers below q passes the test
 abbrev pub all₂ : ℕ → (ℕ → ℕ → Bool) → Bool
@@ -123,3 +124,16 @@ tested F passed =
           (or_cases _ _ (each q (λ a. (a == 0) || F.product a (F.inverse a) == 1) t-product-inverse.0 a h));
       inverse_zero = eqb-true _ _ t-inverse-zero.0;
     }
+
+-- operations that were tested to agree on codes agree everywhere, once they answer 0 for what is no code
+module _ (q : ℕ) where
+  pub unary_is : (g f : ℕ → ℕ) → equal q g f ≡ true → (a : ℕ) → guarded q g a ≡ guarded q f a
+  unary_is g f e a = ⊎_elim (λ h. inside q g a h ∙ equal_each q g f e a h ∙ sym (inside q f a h)) (λ o. outside q g a o ∙ sym (outside q f a o)) (cases_lt a q)
+
+  pub binary_is : (g f : ℕ → ℕ → ℕ) → equal₂ q g f ≡ true → (a b : ℕ) → guarded₂ q g a b ≡ guarded₂ q f a b
+  binary_is g f e a b =
+      ⊎_elim
+      (λ h. ⊎_elim (λ k. inside₂ q g a b h k ∙ equal_each₂ q g f e a b h k ∙ sym (inside₂ q f a b h k))
+      (λ o. outside_right q g a b o ∙ sym (outside_right q f a b o)) (cases_lt b q))
+      (λ o. outside_left q g a b o ∙ sym (outside_left q f a b o))
+      (cases_lt a q)

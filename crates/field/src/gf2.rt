@@ -32,6 +32,6 @@ impl Field for Gf2 {
     }
 
     fn inverse(&self, a: u16) -> u16 {
-        if a == 1 { 1 } else { 0 }
+        u16::from(a == 1)
     }
 }

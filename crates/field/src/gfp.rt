@@ -1,8 +1,8 @@
 // The field of the numbers modulo an odd prime.
-ghost use Rattle.std.specs.Prelude.{◌≡◌, ◌≤◌, Ok, MatchResult};
+ghost use Rattle.std.specs.Prelude.{◌≡◌, Ok, MatchResult};
 ghost use Rattle.refusal.specs.Outcomes.{outcome};
 ghost use Rattle.field.specs.Divisors.{Bezout};
-ghost use Rattle.field.specs.Primes.{Indivisible, OddPrime, odd_prime_of, modulus};
+ghost use Rattle.field.specs.Primes.{OddPrime, OddPrime-prop, indivisible, odd_prime_of, modulus};
 ghost use Rattle.field.specs.Residues.{prime_field, HalfModulo251};
 ghost use Rattle.field.specs.ResidueLaws.{prime_laws};
 
@@ -12,9 +12,7 @@ use refusal::Refusal;
 #[derive(Clone, Copy, Debug)]
 pub struct GfP {
     p: u16,
-    ghost least: { 3 ≤ p },
-    ghost most: { p ≤ 251 },
-    ghost prime: { Indivisible p },
+    ghost odd_prime: { OddPrime p } by { OddPrime-prop p },
 }
 
 impl GfP {
@@ -31,11 +29,18 @@ impl GfP {
     }
 }
 
-// Whether p is an odd prime from 3 to 251, by trial division.
+// Whether p is an odd prime from 3 to 251.
 fn is_odd_prime(p: u16) -> bool
     ensures { result ≡ odd_prime_of p }
 {
-    (3..=251).contains(&p) && (2..p).all(|d| p % d != 0)
+    (3..=251).contains(&p) && is_indivisible(p)
+}
+
+// Whether no number from 2 to p - 1 divides p, by trial division.
+fn is_indivisible(p: u16) -> bool
+    ensures { result ≡ indivisible p }
+{
+    (2..p).all(|d| p % d != 0)
 }
 
 // The greatest common divisor of a and b, with x and y such that a x + b y comes to it.
@@ -54,7 +59,7 @@ fn extended_gcd(a: u16, b: u16) -> (u16, i32, i32)
 impl Field for GfP {
     ghost arithmetic = { λ f. prime_field f.p };
 
-    ghost laws = { λ f. prime_laws f.p (record { least = f.least; most = f.most; prime = f.prime }) };
+    ghost laws = { λ f. prime_laws f.p f.odd_prime };
 
     fn order(&self) -> u32 {
         self.p as u32

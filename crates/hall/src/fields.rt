@@ -21,58 +21,45 @@ pub enum AnyField {
     Nine(Gf9),
 }
 
+// The call at the field that was chosen, whichever it is.
+macro_rules! at_chosen {
+    ($chosen:expr, $field:ident => $call:expr) => {
+        match $chosen {
+            AnyField::Two($field) => $call,
+            AnyField::Prime($field) => $call,
+            AnyField::Four($field) => $call,
+            AnyField::Nine($field) => $call,
+        }
+    };
+}
+
 impl Field for AnyField {
     ghost arithmetic = { chosen };
 
     ghost laws = { elim [
       | Two f ↦ binary_laws
-      | Prime f ↦ prime_laws f.p (record { least = f.least; most = f.most; prime = f.prime })
+      | Prime f ↦ prime_laws f.p f.odd_prime
       | Four f ↦ four_laws
       | Nine f ↦ nine_laws
     ] };
 
     fn order(&self) -> u32 {
-        match self {
-            AnyField::Two(f) => f.order(),
-            AnyField::Prime(f) => f.order(),
-            AnyField::Four(f) => f.order(),
-            AnyField::Nine(f) => f.order(),
-        }
+        at_chosen!(self, field => field.order())
     }
 
     fn sum(&self, a: u16, b: u16) -> u16 {
-        match self {
-            AnyField::Two(f) => f.sum(a, b),
-            AnyField::Prime(f) => f.sum(a, b),
-            AnyField::Four(f) => f.sum(a, b),
-            AnyField::Nine(f) => f.sum(a, b),
-        }
+        at_chosen!(self, field => field.sum(a, b))
     }
 
     fn negative(&self, a: u16) -> u16 {
-        match self {
-            AnyField::Two(f) => f.negative(a),
-            AnyField::Prime(f) => f.negative(a),
-            AnyField::Four(f) => f.negative(a),
-            AnyField::Nine(f) => f.negative(a),
-        }
+        at_chosen!(self, field => field.negative(a))
     }
 
     fn product(&self, a: u16, b: u16) -> u16 {
-        match self {
-            AnyField::Two(f) => f.product(a, b),
-            AnyField::Prime(f) => f.product(a, b),
-            AnyField::Four(f) => f.product(a, b),
-            AnyField::Nine(f) => f.product(a, b),
-        }
+        at_chosen!(self, field => field.product(a, b))
     }
 
     fn inverse(&self, a: u16) -> u16 {
-        match self {
-            AnyField::Two(f) => f.inverse(a),
-            AnyField::Prime(f) => f.inverse(a),
-            AnyField::Four(f) => f.inverse(a),
-            AnyField::Nine(f) => f.inverse(a),
-        }
+        at_chosen!(self, field => field.inverse(a))
     }
 }

@@ -5,7 +5,7 @@ use Rattle.field.proofs.Primes.{odd_prime_true, odd_prime_from}
 use Rattle.field.proofs.gfp.GfP.new.Goals as goal
 
 pub invariant_of-result : goal.invariant_of-result
-invariant_of-result c = let o = odd_prime_true c.args.p cc in record { least = o.least; most = o.most; prime = o.prime }
+invariant_of-result c = record { odd_prime = odd_prime_true c.args.p cc }
 
 pub returns-else-is_odd_prime-clause-prime : goal.returns-else-is_odd_prime-clause-prime
 returns-else-is_odd_prime-clause-prime c o = both_ways _ c.if-is_odd_prime.false (c.is_odd_prime.ensures ∙ odd_prime_from c.args.p o)

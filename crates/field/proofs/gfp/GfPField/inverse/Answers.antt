@@ -13,7 +13,7 @@ use Rattle.field.proofs.gfp.GfPField.inverse.Goals.{then-a-eq0-via-then-a-eq0, t
 pub returns-then-a-eq0 : goal.returns-then-a-eq0
 returns-then-a-eq0 c =
     let p : ℕ = c.args.self.now.p in
-    let low : 3 ≤ p = c.args.self.now.least in
+    let low : 3 ≤ p = c.args.self.now.odd_prime.least in
     elim c.then-a-eq0.branch [
       | then-a-eq0-via-then-a-eq0 w ↦ rw w.if-a-eq0.true (sym (inside p (inverse_modulo p) 0 (omega arith) ∙ inverse_of_zero p))
       | then-a-eq0-via-else-a-eq0+then-a-self w ↦ sym (outside p (inverse_modulo p) c.args.a w.if-a-self.true)
@@ -22,7 +22,9 @@ returns-then-a-eq0 c =
 pub returns : goal.returns
 returns c =
     let f = c.args.self.now in
-    let o : OddPrime f.p = record { least = f.least; most = f.most; prime = f.prime } in
+    let o : OddPrime f.p = f.odd_prime in
+    let low : 3 ≤ f.p = o.least in
+    let most : f.p ≤ 251 = o.most in
     let within : c.args.a < f.p = c.if-a-self.false in
     let x = c.extended_gcd-x.result.1 in
     let x_fits : SFits w32 x = search rules in

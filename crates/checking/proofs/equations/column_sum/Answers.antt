@@ -1,8 +1,0 @@
--- One code more.
-use Rattle.checking.proofs.Terms.{weighted_more}
-use Rattle.checking.proofs.equations.column_sum.Goals as goal
-
-pub loop-i-preserved : goal.loop-i-preserved
-loop-i-preserved g c =
-    weighted_more (g.F.Field.arithmetic c.args.field.now) c.args.codes.now (λ r. (g.G.Grid.holds c.args.grid.now).at r c.args.column)
-    _ _ _ _ _ c.loop-i.invariant c.entry-entry.ensures c.product.ensures c.sum-sum.ensures
