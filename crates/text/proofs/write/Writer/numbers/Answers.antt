@@ -1,5 +1,5 @@
 -- One column more is written.
-use Rattle.std.proofs.Common.{get_or}
+use Rattle.std.proofs.Common.{get_or, refl}
 use Rattle.std.proofs.lemmas.List.{at_drop_more, at_drop_all}
 use Rattle.survey.specs.Lists.{gather}
 use Rattle.text.specs.Columns.{column}
@@ -7,7 +7,7 @@ use Rattle.text.proofs.Writing.{due_none, due_more, due_all, due_fits}
 use Rattle.text.proofs.write.Writer.numbers.Goals as goal
 
 pub loop-v-init : goal.loop-v-init
-loop-v-init c = due_none _ _
+loop-v-init c = due_none c.args.self.now _ _ refl
 
 pub number-requires : goal.number-requires
 number-requires c =
