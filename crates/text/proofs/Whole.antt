@@ -16,7 +16,7 @@ use Rattle.text.specs.Reading.{Read, count_line_of, sensor_lines_of, fence_line_
 use Rattle.text.specs.Lines.{fitting, fitted, LinesRead}
 use Rattle.text.specs.Text.{text}
 use Rattle.text.proofs.Accepting.{accepted_is_text}
-use Rattle.text.proofs.Lists.{fitted_accepted, fitted_refused, none_fits, some_fits}
+use Rattle.text.proofs.Lists.{fitted_accepted, none_fits, some_fits}
 
 -- a survey, and the bytes behind its text
 abbrev pub with_rest : List ℕ → Survey → Outcome (Read Survey)
@@ -42,9 +42,6 @@ pub judged_long : (p : Neighbours) (list : List ℕ) → 64 < length list → ju
 judged_long p list l = cond-false _ _ _ (no_fence p list l)
 
 module _ (bytes behind : List ℕ) (old : Neighbours) (first : count_line_of bytes ≡ accepted (record { got = old.count; rest = behind })) where
-  pub lines_refused : (k : ℕ) → sensor_lines_of old.count old.count 1 behind ≡ refused k → reading bytes ≡ refused k
-  lines_refused k e = ap (λ o. and_then o of_lines) first ∙ ap (λ o. and_then o (of_fence old.count)) e
-
   module _ (last : List ℕ) (new : Neighbours) (lines : LinesRead behind old (Ok tt) last new) where
     survey_is : (list : List ℕ) → ◌≡◌ {A = Survey} (record { count = old.count; linked = names lines.0; fence = list }) (drawn new list)
     survey_is list =
@@ -56,9 +53,6 @@ module _ (bytes behind : List ℕ) (old : Neighbours) (first : count_line_of byt
     after_lines =
         ap (λ o. and_then o of_lines) first ∙ ap (λ o. and_then o (of_fence old.count)) lines.1
         ∙ ap (and_then (fence_line_of last)) (fun_ext (λ fence. ap (λ s. and_then (judged s) (with_rest fence.rest)) (survey_is fence.got)))
-
-    pub fence_refused : (k : ℕ) → refused k ≡ fitted (fence_line_of last) → reading bytes ≡ refused k
-    fence_refused k e = after_lines ∙ ap (λ o. and_then o (λ fence. and_then (judged (drawn new fence.got)) (with_rest fence.rest))) (fitted_refused (fence_line_of last) k e)
 
     -- the last line has the right form, and is kept if it fits
     module _ (f : Option (List ℕ)) (rest : List ℕ) (fence : accepted (record { got = f; rest = rest }) ≡ fitted (fence_line_of last)) where

@@ -2,7 +2,6 @@
 use Rattle.std.proofs.Common.{◌+◌, ◌<◌, ◌≤◌, ap, arith}
 use Rattle.survey.specs.Plans.{survey_of}
 use Rattle.survey.proofs.Walks.{below_none}
-use Rattle.text.specs.Writing.{neighbour_columns}
 use Rattle.text.proofs.Writing.{due_none, due_all, below_sensors, columns_among, column_fits, column_wrote, column_passed}
 use Rattle.text.proofs.write.Writer.neighbours.Goals as goal
 use Rattle.text.proofs.write.Writer.neighbours.Goals.{then-linked, else-linked}
