@@ -1,7 +1,6 @@
 -- A loop that names a rising list, one by one.
 use Rattle.std.proofs.Common.{◌≡◌, ℕ, zero, suc, ◌+◌, ◌<◌, ◌≤◌, ◌⊎◌, Bool, true, false, cond, not, ◌&&◌, ◌||◌, eqb, ltb, leb, List, [], ◌∷◌, length, get_or, take, drop, sym, refl, ap, ◌∙◌, subst, inl, inr, arith}
 use Rattle.std.proofs.lemmas.List.{at_drop_more, at_drop_all, take_more, take_all}
-use Rattle.std.proofs.lemmas.Bool.{cases_Bool, and_parts}
 use Rattle.std.proofs.lemmas.Bool.Decides.{nat_tests}
 use Rattle.refusal.specs.Outcomes.{accepted, refused}
 use Rattle.refusal.proofs.Outcomes.{refused_accepted, taken_parts, same_from_accepted}
@@ -13,29 +12,11 @@ use Rattle.survey.specs.Tables.{at}
 use Rattle.survey.specs.Views.{drawn, naming, two_sensors, with_name}
 use Rattle.text.specs.Reading.{rising}
 use Rattle.text.specs.Lines.{NamesAll}
+use Rattle.text.proofs.Rising.{Ascends}
 
 -- the number before the place i, and 0 at the start
 abbrev pub before_at : List ℕ → ℕ → ℕ
 before_at list i = get_or (0 ∷ list) i 0
-
--- each is above the one before it
-abbrev pub Ascends : List ℕ → Type 0
-Ascends list = (k : ℕ) → k + 1 < length list → get_or list k 0 < get_or list (k + 1) 0
-
-rising_ascends : (n x before : ℕ) (list : List ℕ) → rising n x before list ≡ true → Ascends list
-rising_ascends n x before [] e k l = absurd (omega arith)
-rising_ascends n x before (y ∷ []) e k l = absurd (omega arith)
-rising_ascends n x before (y ∷ (z ∷ zs)) e zero l = grind (arith, nat_tests)
-rising_ascends n x before (y ∷ (z ∷ zs)) e (suc k) l =
-    let next : suc k + 1 ≡ suc (k + 1) = omega arith in
-    rw next (rising_ascends n x y (z ∷ zs) (and_parts _ _ e).1 k (omega arith))
-
--- where a number is not above the one before it, the list does not rise
-pub rising_unsorted : (n x : ℕ) (list : List ℕ) (k : ℕ) → k + 1 < length list → get_or list (k + 1) 0 ≤ get_or list k 0 → rising n x 0 list ≡ false
-rising_unsorted n x list k l h = elim (cases_Bool (rising n x 0 list)) [
-  | inl t ↦ absurd (omega (arith, rising_ascends n x 0 list t k l))
-  | inr f ↦ f
-]
 
 -- the loop is at the place i of the list: the rest has to rise from the one before, and those passed are named
 pub record NamesOn (old now : Neighbours) (x i : ℕ) (list : List ℕ) : Type 0 where

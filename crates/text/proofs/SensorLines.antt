@@ -1,7 +1,7 @@
 -- An N line from its parts, and all of them one after another.
-use Rattle.std.proofs.Common.{◌≡◌, ℕ, zero, suc, ◌+◌, ◌-◌, ◌<◌, ◌≤◌, Bool, true, false, cond, ◌&&◌, ◌||◌, eqb, List, [], ◌∷◌, ◌++◌, length, get_or, Some, None, Ok, Err, Option, Result, sym, refl, ap, ◌∙◌, subst, inl, inr, append_assoc, append-nil, arith, length-append}
+use Rattle.std.proofs.Common.{◌≡◌, ℕ, zero, suc, ◌+◌, ◌-◌, ◌<◌, ◌≤◌, Bool, true, false, cond, ◌&&◌, ◌||◌, eqb, List, [], ◌∷◌, ◌++◌, length, get_or, Some, None, Ok, Err, Option, Result, sym, refl, ap, ◌∙◌, subst, append_assoc, append-nil, arith, length-append}
 use mathlib.Core.Bool.{or-false}
-use Rattle.std.proofs.lemmas.Bool.{cases_Bool, and_parts, ltb-true, leb-true, eq-eqb, ne_eqb, cond-true, cond-false}
+use Rattle.std.proofs.lemmas.Bool.{eq-eqb, ne_eqb, cond-true, cond-false}
 use Rattle.std.proofs.lemmas.Bool.Decides.{nat_tests}
 use Rattle.refusal.specs.declared.Refusal.{Refusal}
 use Rattle.refusal.specs.Outcomes.{Outcome, accepted, refused, and_then}
@@ -10,26 +10,8 @@ use Rattle.survey.specs.Lists.{member}
 use Rattle.survey.specs.Tables.{at}
 use Rattle.text.specs.Reading.{Read, byte, formed, a_number, a_list, rising, a_sensor_line, row_before, sensor_lines_of, names}
 use Rattle.text.proofs.Lists.{fitted_accepted, fitted_refused, none_fits, some_fits}
+use Rattle.text.proofs.Rising.{rising_long}
 use Rattle.text.specs.Lines.{fitting, fitted, NamesAll, Neighboured, LineRead, LinesRead}
-
--- what a rising list says of its first element, and of the others
-rising_first : (n x before y : ℕ) (ys : List ℕ) → rising n x before (y ∷ ys) ≡ true → (before < y) × (y ≤ n) × (rising n x y ys ≡ true)
-rising_first n x before y ys e =
-    let p = and_parts _ _ e in let q = and_parts _ _ p.0 in let r = and_parts _ _ q.0 in
-    (ltb-true before y r.0, leb-true y n r.1, p.1)
-
--- a rising list is short
-length_rising : (n x before : ℕ) (xs : List ℕ) → rising n x before xs ≡ true → length xs ≤ n - before
-length_rising n x before [] e = omega arith
-length_rising n x before (y ∷ ys) e =
-    let next = rising_first n x before y ys e in
-    omega (arith, length_rising n x y ys next.2)
-
-pub rising_long : (n x : ℕ) (xs : List ℕ) → n < length xs → rising n x 0 xs ≡ false
-rising_long n x xs l = elim (cases_Bool (rising n x 0 xs)) [
-  | inl t ↦ absurd (omega (arith, length_rising n x 0 xs t))
-  | inr f ↦ f
-]
 
 -- the values of a line, once its form is read
 abbrev valued : ℕ → ℕ → ℕ → Read (List ℕ) → Outcome (Read (List ℕ))

@@ -3,7 +3,8 @@ use Rattle.std.proofs.Common.{refl, sym, ltb, rules}
 use Rattle.std.proofs.lemmas.Bool.{ltb-true, ltb-false}
 use Rattle.std.proofs.lemmas.List.Sorted.{answers_always}
 use Rattle.std.proofs.lemmas.Result.{err_from_is_err_and}
-use Rattle.text.proofs.Naming.{Ascends, rising_unsorted, names_on_none, names_on_refused, names_on_more, names_on_all}
+use Rattle.text.proofs.Rising.{Ascends, rising_unsorted}
+use Rattle.text.proofs.Naming.{names_on_none, names_on_refused, names_on_more, names_on_all}
 use Rattle.text.proofs.line.name_all.Goals as goal
 
 pub returns-then-not-is_sorted_by : goal.returns-then-not-is_sorted_by
