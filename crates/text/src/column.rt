@@ -17,7 +17,7 @@ fn read_lead(before: u16, b: u8) -> Option<u16>
     }
 }
 
-// The whole number; `before` is the number up to the place before the last.
+// The whole number; `before` is the number up to the place before the last. The last place is no space, and may be 0 by itself.
 fn read_last(before: u16, b: u8) -> Option<u16>
     requires { before < 1000 }
     ensures { result ≡ last before b }

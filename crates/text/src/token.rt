@@ -6,6 +6,7 @@ ghost use Rattle.text.specs.Tokens.{Stands, part_of, part_first, slice_of, place
 use crate::column::number_column;
 use crate::symbol::{Symbol, classify};
 
+// The rules of the project ask that each case holds its slice and its place.
 #[derive(Clone, Copy, Debug)]
 pub enum Token<'a> {
     Number {
