@@ -2,9 +2,8 @@
 use Rattle.std.proofs.Common.{refl, sym, ltb, rules}
 use Rattle.std.proofs.lemmas.Bool.{ltb-true, ltb-false}
 use Rattle.std.proofs.lemmas.List.Sorted.{answers_always}
-use Rattle.std.proofs.lemmas.Result.{err_from_is_err_and}
 use Rattle.text.proofs.Rising.{Ascends, rising_unsorted}
-use Rattle.text.proofs.Naming.{names_on_none, names_on_refused, names_on_more, names_on_all}
+use Rattle.text.proofs.Naming.{names_on_none, names_on_more}
 use Rattle.text.proofs.line.name_all.Goals as goal
 
 pub returns-then-not-is_sorted_by : goal.returns-then-not-is_sorted_by
@@ -20,13 +19,5 @@ ascends c k l =
 pub loop-y-init : goal.loop-y-init
 loop-y-init c = names_on_none _ _ _ (ascends c)
 
-pub returns-in_err-add : goal.returns-in_err-add
-returns-in_err-add c =
-    let p = err_from_is_err_and c.from_residual.result c.from_residual.ensures.1 in
-    rw (p.1, p.2) (names_on_refused _ _ _ _ _ c.loop-y.invariant _ c.loop-y-test.true c.requires.0 c.requires.1 c.in_err-add.ensures.answer)
-
 pub loop-y-preserved : goal.loop-y-preserved
 loop-y-preserved c = names_on_more _ _ _ _ _ c.loop-y.invariant _ c.loop-y-test.true c.requires.0 c.requires.1 c.in_ok-add.ensures.answer
-
-pub returns : goal.returns
-returns c = names_on_all _ _ _ _ _ c.loop-y.invariant c.loop-y-test.false
