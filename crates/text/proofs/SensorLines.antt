@@ -17,6 +17,12 @@ use Rattle.text.specs.Lines.{fitting, fitted, NamesAll, Neighboured, LineRead, L
 abbrev valued : ℕ → ℕ → ℕ → Read (List ℕ) → Outcome (Read (List ℕ))
 valued n x v list = cond (eqb v x) (cond (rising n x 0 list.got) (accepted list) (refused 4)) (refused 3)
 
+-- the form of the line of x is read: a sensor v, and a list that is kept if it fits
+pub record Formed (bytes : List ℕ) (old : Neighbours) (x v : ℕ) (f : Option (List ℕ)) (rest : List ℕ) : Type 0 where
+  pub list : List ℕ
+  pub line : a_sensor_line old.count x bytes ≡ valued old.count x v (record { got = list; rest = rest })
+  pub fits : f ≡ fitting list
+
 module _ (bytes a b : List ℕ) (old : Neighbours) (x v : ℕ)
     (letter : accepted a ≡ formed (byte 78 bytes))
     (number : accepted (record { got = v; rest = b }) ≡ formed (a_number a)) where
@@ -28,32 +34,32 @@ module _ (bytes a b : List ℕ) (old : Neighbours) (x v : ℕ)
   pub line_malformed : (k : ℕ) → refused k ≡ fitted (formed (a_list b)) → a_sensor_line old.count x bytes ≡ refused k
   line_malformed k e = line_listed ∙ ap (λ o. and_then o (valued old.count x v)) (fitted_refused (formed (a_list b)) k e)
 
-  -- a list of the right form, which is kept if it fits
-  module _ (f : Option (List ℕ)) (rest : List ℕ) (list : accepted (record { got = f; rest = rest }) ≡ fitted (formed (a_list b))) where
-    line_valued : (l : List ℕ) × (a_sensor_line old.count x bytes ≡ valued old.count x v (record { got = l; rest = rest })) × (f ≡ fitting l)
-    line_valued = let p = fitted_accepted (formed (a_list b)) f rest list in (p.0, line_listed ∙ ap (λ o. and_then o (valued old.count x v)) p.1, p.2)
+  pub line_formed : (f : Option (List ℕ)) (rest : List ℕ) → accepted (record { got = f; rest = rest }) ≡ fitted (formed (a_list b)) → Formed bytes old x v f rest
+  line_formed f rest list =
+      let p = fitted_accepted (formed (a_list b)) f rest list in
+      record { list = p.0; line = line_listed ∙ ap (λ o. and_then o (valued old.count x v)) p.1; fits = p.2 }
 
-    pub line_out_of_turn : ¬ (v ≡ x) → a_sensor_line old.count x bytes ≡ refused 3
-    line_out_of_turn d = line_valued.1 ∙ cond-false _ _ _ (ne_eqb v x d)
+module _ {bytes : List ℕ} {old : Neighbours} {x v : ℕ} {f : Option (List ℕ)} {rest : List ℕ} (form : Formed bytes old x v f rest) where
+  pub line_out_of_turn : ¬ (v ≡ x) → a_sensor_line old.count x bytes ≡ refused 3
+  line_out_of_turn d = form.line ∙ cond-false _ _ _ (ne_eqb v x d)
 
-    line_rising : (t : Bool) → v ≡ x → rising old.count x 0 line_valued.0 ≡ t
-        → a_sensor_line old.count x bytes ≡ cond t (accepted (record { got = line_valued.0; rest = rest })) (refused 4)
-    line_rising t e q = line_valued.1 ∙ cond-true _ _ _ (eq-eqb v x e) ∙ ap (λ t. cond t (accepted (record { got = line_valued.0; rest = rest })) (refused 4)) q
+  line_rising : (t : Bool) → v ≡ x → rising old.count x 0 form.list ≡ t → a_sensor_line old.count x bytes ≡ cond t (accepted (record { got = form.list; rest = rest })) (refused 4)
+  line_rising t e q = form.line ∙ cond-true _ _ _ (eq-eqb v x e) ∙ ap (λ t. cond t (accepted (record { got = form.list; rest = rest })) (refused 4)) q
 
-    -- more numbers than there can be sensors do not rise
-    pub line_long : v ≡ x → f ≡ None → a_sensor_line old.count x bytes ≡ refused 4
-    line_long e none =
-        let few : old.count ≤ 64 = old.most in
-        let long = none_fits line_valued.0 (sym none ∙ line_valued.2) in
-        line_rising false e (rising_long old.count x line_valued.0 (omega (arith, few, long)))
+  -- more numbers than there can be sensors do not rise
+  pub line_long : v ≡ x → f ≡ None → a_sensor_line old.count x bytes ≡ refused 4
+  line_long e none =
+      let few : old.count ≤ 64 = old.most in
+      let long = none_fits form.list (sym none ∙ form.fits) in
+      line_rising false e (rising_long old.count x form.list (omega (arith, few, long)))
 
-    pub line_read : (xs : List ℕ) (r : Result (Unit {0}) Refusal) (new : Neighbours) → v ≡ x → f ≡ Some xs → Neighboured old x xs r new → LineRead bytes old x r rest new
-    line_read xs (Ok _) new e some h =
-        let same = some_fits xs line_valued.0 (sym some ∙ line_valued.2) in
-        (line_valued.0, line_rising true e (ap (rising old.count x 0) (sym same) ∙ h.0), subst (λ (l : List ℕ). NamesAll old x l new) same h.1)
-    line_read xs (Err k) new e some h =
-        let same = some_fits xs line_valued.0 (sym some ∙ line_valued.2) in
-        line_rising false e (ap (rising old.count x 0) (sym same) ∙ h.0) ∙ ap refused (sym h.1)
+  pub line_read : (xs : List ℕ) (r : Result (Unit {0}) Refusal) (new : Neighbours) → v ≡ x → f ≡ Some xs → Neighboured old x xs r new → LineRead bytes old x r rest new
+  line_read xs (Ok _) new e some h =
+      let same = some_fits xs form.list (sym some ∙ form.fits) in
+      (form.list, line_rising true e (ap (rising old.count x 0) (sym same) ∙ h.0), subst (λ (l : List ℕ). NamesAll old x l new) same h.1)
+  line_read xs (Err k) new e some h =
+      let same = some_fits xs form.list (sym some ∙ form.fits) in
+      line_rising false e (ap (rising old.count x 0) (sym same) ∙ h.0) ∙ ap refused (sym h.1)
 
 -- rows read before the others
 abbrev rows_before : List (List ℕ) → Read (List (List ℕ)) → Outcome (Read (List (List ℕ)))
