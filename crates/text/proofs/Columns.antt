@@ -1,17 +1,15 @@
 -- Four bytes say a number exactly if they are its column.
 use Rattle.std.proofs.Common.{◌≡◌, ℕ, ◌/◌, ◌<◌, [], ◌∷◌, Some, None, Option, refl, ap, ◌∙◌, arith}
 use Rattle.std.proofs.lemmas.Bool.Decides.{nat_tests}
+use Rattle.std.proofs.lemmas.Option.{none-some}
 use Rattle.text.specs.Columns.{digit_of, lead_of, column, lead, last, and_next, number}
-
-pub none_some : {A : Type 0} {x : A} → ◌≡◌ {A = Option A} None (Some x) → ⊥
-none_some e = let z : ◌≡◌ {A = ℕ} 0 1 = cc in omega arith
 
 pub and_next_some : {A B : Type 0} (o : Option A) (f : A → Option B) (x : A) → o ≡ Some x → and_next o f ≡ f x
 and_next_some o f x e = ap (λ o. and_next o f) e
 
 -- what both steps came to
 pub and_next_parts : {A B : Type 0} (o : Option A) (f : A → Option B) (y : B) → and_next o f ≡ Some y → (x : A) × (o ≡ Some x) × (f x ≡ Some y)
-and_next_parts None f y e = absurd (none_some e)
+and_next_parts None f y e = absurd (none-some _ e)
 and_next_parts (Some x) f y e = (x, refl, e)
 
 lead_parts : (before b v : ℕ) → lead before b ≡ Some v → (v / 10 ≡ before) × (b ≡ lead_of v)

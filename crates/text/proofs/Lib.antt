@@ -5,7 +5,6 @@ pub mod Rising
 pub mod Accepting
 pub mod Back
 pub mod Lengths
-pub mod Tokens
 pub mod Lists
 pub mod Counting
 pub mod Naming

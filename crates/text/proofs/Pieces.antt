@@ -10,7 +10,8 @@ use Rattle.survey.specs.Surveys.{Survey, sensors}
 use Rattle.text.specs.Columns.{lead_of, column, and_next, number}
 use Rattle.text.specs.Text.{list_end, sensor_line_of, text}
 use Rattle.text.specs.Reading.{Read, byte, a_number, led_by, ended, a_list, formed}
-use Rattle.text.proofs.Columns.{none_some, and_next_some, and_next_parts, number_column_of, number_of_column}
+use Rattle.std.proofs.lemmas.Option.{none-some}
+use Rattle.text.proofs.Columns.{and_next_some, and_next_parts, number_column_of, number_of_column}
 
 pub formed_some : {A : Type 0} (o : Option A) (x : A) → formed o ≡ accepted x → o ≡ Some x
 formed_some None x e = absurd (refused_accepted e)
@@ -19,17 +20,17 @@ formed_some (Some y) x e = cc
 -- a test without which there is nothing
 some_parts : {A : Type 0} (t : Bool) (x y : A) → cond t (Some x) None ≡ Some y → (t ≡ true) × (x ≡ y)
 some_parts true x y e = (refl, cc)
-some_parts false x y e = absurd (none_some e)
+some_parts false x y e = absurd (none-some _ e)
 
 led_by_parts : (v : ℕ) (o : Option (Read (List ℕ))) (r : Read (List ℕ)) → led_by v o ≡ Some r
     → (q : Read (List ℕ)) × (o ≡ Some q) × (◌≡◌ {A = Read (List ℕ)} (record { got = v ∷ q.got; rest = q.rest }) r)
-led_by_parts v None r e = absurd (none_some e)
+led_by_parts v None r e = absurd (none-some _ e)
 led_by_parts v (Some q) r e = (q, refl, cc)
 
 -- bytes
 
 pub byte_text : (x : ℕ) (bytes rest : List ℕ) → byte x bytes ≡ Some rest → bytes ≡ x ∷ rest
-byte_text x [] rest e = absurd (none_some e)
+byte_text x [] rest e = cc
 byte_text x (a ∷ more) rest e = let p = some_parts _ more rest e in ap₂ ◌∷◌ (eqb-true a x p.0) p.1
 
 -- numbers
@@ -38,10 +39,10 @@ abbrev number_text : Read ℕ → List ℕ
 number_text r = column r.got ++ r.rest
 
 pub a_number_text : (bytes : List ℕ) (r : Read ℕ) → a_number bytes ≡ Some r → bytes ≡ number_text r
-a_number_text [] r e = absurd (none_some e)
-a_number_text (a ∷ []) r e = absurd (none_some e)
-a_number_text (a ∷ (b ∷ [])) r e = absurd (none_some e)
-a_number_text (a ∷ (b ∷ (c ∷ []))) r e = absurd (none_some e)
+a_number_text [] r e = cc
+a_number_text (a ∷ []) r e = cc
+a_number_text (a ∷ (b ∷ [])) r e = cc
+a_number_text (a ∷ (b ∷ (c ∷ []))) r e = cc
 a_number_text (a ∷ (b ∷ (c ∷ (d ∷ rest)))) r e =
     let p = and_next_parts (number a b c d) _ r e in
     let same : ◌≡◌ {A = Read ℕ} (record { got = p.0; rest = rest }) r = cc in
@@ -68,8 +69,8 @@ led_text a b c d rest r more e =
     ap₂ ◌++◌ (number_column_of a b c d p.0 p.1) (more q.0 q.1) ∙ ap list_text q.2
 
 pub a_list_text : (bytes : List ℕ) (r : Read (List ℕ)) → a_list bytes ≡ Some r → bytes ≡ list_text r
-a_list_text [] r e = absurd (none_some e)
-a_list_text (a ∷ []) r e = absurd (none_some e)
+a_list_text [] r e = cc
+a_list_text (a ∷ []) r e = cc
 a_list_text (a ∷ (b ∷ [])) r e = ended_text a b [] r e
 a_list_text (a ∷ (b ∷ (c ∷ []))) r e = ended_text a b (c ∷ []) r e
 a_list_text (a ∷ (b ∷ (c ∷ (d ∷ rest)))) r e =

@@ -1,5 +1,5 @@
--- A rising list is what a run of numbers has of its members, and what a test keeps of a run rises.
-use Rattle.std.proofs.Common.{◌≡◌, ℕ, zero, suc, ◌+◌, ◌<◌, ◌≤◌, Bool, true, false, cond, ◌||◌, List, [], ◌∷◌, ◌++◌, sym, refl, ap, ◌∙◌, subst, ap₂, inl, inr, arith}
+-- A rising list ascends and is short; it is what a run of numbers has of its members, and what a test keeps of a run rises.
+use Rattle.std.proofs.Common.{◌≡◌, ℕ, zero, suc, ◌+◌, ◌-◌, ◌<◌, ◌≤◌, Bool, true, false, cond, ◌||◌, List, [], ◌∷◌, ◌++◌, length, get_or, sym, refl, ap, ◌∙◌, subst, ap₂, inl, inr, arith}
 use Rattle.std.specs.List.{AllByRecursion}
 use Rattle.std.proofs.lemmas.Bool.{cases_eq, eq-eqb, ne_eqb, eqb-true, eqb-false, leb-true, ltb-true, lt-ltb, le-leb, cond-true, cond-false, and_parts, and_from, or_left, or_cases, both_ways, not-true, not_from_false}
 use Rattle.survey.specs.Lists.{numbers, member}
@@ -20,6 +20,32 @@ rising_parts n x before y ys e =
 rising_from : (n x before y : ℕ) (ys : List ℕ) → Follows n x before y → rising n x y ys ≡ true → rising n x before (y ∷ ys) ≡ true
 rising_from n x before y ys f e =
     and_from _ _ (and_from _ _ (and_from _ _ (lt-ltb _ _ f.above) (le-leb _ _ f.most)) (not_from_false _ (ne_eqb _ _ f.other))) e
+
+-- a rising list is short
+length_rising : (n x before : ℕ) (row : List ℕ) → rising n x before row ≡ true → length row ≤ n - before
+length_rising n x before [] e = omega arith
+length_rising n x before (y ∷ ys) e =
+    let p = rising_parts n x before y ys e in
+    omega (arith, p.0.above, p.0.most, length_rising n x y ys p.1)
+
+pub rising_long : (n x : ℕ) (row : List ℕ) → n < length row → rising n x 0 row ≡ false
+rising_long n x row l = false_from _ (λ t. omega (arith, length_rising n x 0 row t))
+
+-- each is above the one before it
+abbrev pub Ascends : List ℕ → Type 0
+Ascends row = (k : ℕ) → k + 1 < length row → get_or row k 0 < get_or row (k + 1) 0
+
+rising_ascends : (n x before : ℕ) (row : List ℕ) → rising n x before row ≡ true → Ascends row
+rising_ascends n x before [] e k l = absurd (omega arith)
+rising_ascends n x before (y ∷ []) e k l = absurd (omega arith)
+rising_ascends n x before (y ∷ (z ∷ zs)) e zero l = (rising_parts n x y z zs (rising_parts n x before y (z ∷ zs) e).1).0.above
+rising_ascends n x before (y ∷ (z ∷ zs)) e (suc k) l =
+    let next : suc k + 1 ≡ suc (k + 1) = omega arith in
+    rw next (rising_ascends n x y (z ∷ zs) (rising_parts n x before y (z ∷ zs) e).1 k (omega arith))
+
+-- where a number is not above the one before it, the list does not rise
+pub rising_unsorted : (n x : ℕ) (row : List ℕ) (k : ℕ) → k + 1 < length row → get_or row (k + 1) 0 ≤ get_or row k 0 → rising n x 0 row ≡ false
+rising_unsorted n x row k l h = false_from _ (λ t. omega (arith, rising_ascends n x 0 row t k l))
 
 pub member_rising : (n x before : ℕ) (row : List ℕ) (y : ℕ) → rising n x before row ≡ true → member y row ≡ true → Follows n x before y
 member_rising n x before [] y e m = absurd (both_ways _ refl m)

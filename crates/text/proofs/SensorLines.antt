@@ -1,7 +1,7 @@
 -- An N line from its parts, and all of them one after another.
-use Rattle.std.proofs.Common.{◌≡◌, ℕ, zero, suc, ◌+◌, ◌-◌, ◌<◌, ◌≤◌, Bool, true, false, cond, ◌&&◌, ◌||◌, eqb, List, [], ◌∷◌, ◌++◌, length, get_or, Some, None, Ok, Err, Option, Result, sym, refl, ap, ◌∙◌, subst, inl, inr, append_assoc, append-nil, arith, length-append}
+use Rattle.std.proofs.Common.{◌≡◌, ℕ, zero, suc, ◌+◌, ◌-◌, ◌<◌, ◌≤◌, Bool, true, false, cond, ◌&&◌, ◌||◌, eqb, List, [], ◌∷◌, ◌++◌, length, get_or, Some, None, Ok, Err, Option, Result, sym, refl, ap, ◌∙◌, subst, append_assoc, append-nil, arith, length-append}
 use mathlib.Core.Bool.{or-false}
-use Rattle.std.proofs.lemmas.Bool.{cases_Bool, and_parts, ltb-true, leb-true, eq-eqb, ne_eqb, cond-true, cond-false}
+use Rattle.std.proofs.lemmas.Bool.{eq-eqb, ne_eqb, cond-true, cond-false}
 use Rattle.std.proofs.lemmas.Bool.Decides.{nat_tests}
 use Rattle.refusal.specs.declared.Refusal.{Refusal}
 use Rattle.refusal.specs.Outcomes.{Outcome, accepted, refused, and_then}
@@ -10,30 +10,18 @@ use Rattle.survey.specs.Lists.{member}
 use Rattle.survey.specs.Tables.{at}
 use Rattle.text.specs.Reading.{Read, byte, formed, a_number, a_list, rising, a_sensor_line, row_before, sensor_lines_of, names}
 use Rattle.text.proofs.Lists.{fitted_accepted, fitted_refused, none_fits, some_fits}
+use Rattle.text.proofs.Rising.{rising_long}
 use Rattle.text.specs.Lines.{fitting, fitted, NamesAll, Neighboured, LineRead, LinesRead}
-
--- what a rising list says of its first element, and of the others
-rising_first : (n x before y : ℕ) (ys : List ℕ) → rising n x before (y ∷ ys) ≡ true → (before < y) × (y ≤ n) × (rising n x y ys ≡ true)
-rising_first n x before y ys e =
-    let p = and_parts _ _ e in let q = and_parts _ _ p.0 in let r = and_parts _ _ q.0 in
-    (ltb-true before y r.0, leb-true y n r.1, p.1)
-
--- a rising list is short
-length_rising : (n x before : ℕ) (xs : List ℕ) → rising n x before xs ≡ true → length xs ≤ n - before
-length_rising n x before [] e = omega arith
-length_rising n x before (y ∷ ys) e =
-    let next = rising_first n x before y ys e in
-    omega (arith, length_rising n x y ys next.2)
-
-pub rising_long : (n x : ℕ) (xs : List ℕ) → n < length xs → rising n x 0 xs ≡ false
-rising_long n x xs l = elim (cases_Bool (rising n x 0 xs)) [
-  | inl t ↦ absurd (omega (arith, length_rising n x 0 xs t))
-  | inr f ↦ f
-]
 
 -- the values of a line, once its form is read
 abbrev valued : ℕ → ℕ → ℕ → Read (List ℕ) → Outcome (Read (List ℕ))
 valued n x v list = cond (eqb v x) (cond (rising n x 0 list.got) (accepted list) (refused 4)) (refused 3)
+
+-- the form of the line of x is read: a sensor v, and a list that is kept if it fits
+pub record Formed (bytes : List ℕ) (old : Neighbours) (x v : ℕ) (f : Option (List ℕ)) (rest : List ℕ) : Type 0 where
+  pub list : List ℕ
+  pub line : a_sensor_line old.count x bytes ≡ valued old.count x v (record { got = list; rest = rest })
+  pub fits : f ≡ fitting list
 
 module _ (bytes a b : List ℕ) (old : Neighbours) (x v : ℕ)
     (letter : accepted a ≡ formed (byte 78 bytes))
@@ -46,40 +34,36 @@ module _ (bytes a b : List ℕ) (old : Neighbours) (x v : ℕ)
   pub line_malformed : (k : ℕ) → refused k ≡ fitted (formed (a_list b)) → a_sensor_line old.count x bytes ≡ refused k
   line_malformed k e = line_listed ∙ ap (λ o. and_then o (valued old.count x v)) (fitted_refused (formed (a_list b)) k e)
 
-  -- a list of the right form, which is kept if it fits
-  module _ (f : Option (List ℕ)) (rest : List ℕ) (list : accepted (record { got = f; rest = rest }) ≡ fitted (formed (a_list b))) where
-    line_valued : (l : List ℕ) × (a_sensor_line old.count x bytes ≡ valued old.count x v (record { got = l; rest = rest })) × (f ≡ fitting l)
-    line_valued = let p = fitted_accepted (formed (a_list b)) f rest list in (p.0, line_listed ∙ ap (λ o. and_then o (valued old.count x v)) p.1, p.2)
+  pub line_formed : (f : Option (List ℕ)) (rest : List ℕ) → accepted (record { got = f; rest = rest }) ≡ fitted (formed (a_list b)) → Formed bytes old x v f rest
+  line_formed f rest list =
+      let p = fitted_accepted (formed (a_list b)) f rest list in
+      record { list = p.0; line = line_listed ∙ ap (λ o. and_then o (valued old.count x v)) p.1; fits = p.2 }
 
-    pub line_out_of_turn : ¬ (v ≡ x) → a_sensor_line old.count x bytes ≡ refused 3
-    line_out_of_turn d = line_valued.1 ∙ cond-false _ _ _ (ne_eqb v x d)
+module _ {bytes : List ℕ} {old : Neighbours} {x v : ℕ} {f : Option (List ℕ)} {rest : List ℕ} (form : Formed bytes old x v f rest) where
+  pub line_out_of_turn : ¬ (v ≡ x) → a_sensor_line old.count x bytes ≡ refused 3
+  line_out_of_turn d = form.line ∙ cond-false _ _ _ (ne_eqb v x d)
 
-    line_rising : (t : Bool) → v ≡ x → rising old.count x 0 line_valued.0 ≡ t
-        → a_sensor_line old.count x bytes ≡ cond t (accepted (record { got = line_valued.0; rest = rest })) (refused 4)
-    line_rising t e q = line_valued.1 ∙ cond-true _ _ _ (eq-eqb v x e) ∙ ap (λ t. cond t (accepted (record { got = line_valued.0; rest = rest })) (refused 4)) q
+  line_rising : (t : Bool) → v ≡ x → rising old.count x 0 form.list ≡ t → a_sensor_line old.count x bytes ≡ cond t (accepted (record { got = form.list; rest = rest })) (refused 4)
+  line_rising t e q = form.line ∙ cond-true _ _ _ (eq-eqb v x e) ∙ ap (λ t. cond t (accepted (record { got = form.list; rest = rest })) (refused 4)) q
 
-    -- more numbers than there can be sensors do not rise
-    pub line_long : v ≡ x → f ≡ None → a_sensor_line old.count x bytes ≡ refused 4
-    line_long e none =
-        let few : old.count ≤ 64 = old.most in
-        let long = none_fits line_valued.0 (sym none ∙ line_valued.2) in
-        line_rising false e (rising_long old.count x line_valued.0 (omega (arith, few, long)))
+  -- more numbers than there can be sensors do not rise
+  pub line_long : v ≡ x → f ≡ None → a_sensor_line old.count x bytes ≡ refused 4
+  line_long e none =
+      let few : old.count ≤ 64 = old.most in
+      let long = none_fits form.list (sym none ∙ form.fits) in
+      line_rising false e (rising_long old.count x form.list (omega (arith, few, long)))
 
-    pub line_read : (xs : List ℕ) (r : Result (Unit {0}) Refusal) (new : Neighbours) → v ≡ x → f ≡ Some xs → Neighboured old x xs r new → LineRead bytes old x r rest new
-    line_read xs (Ok _) new e some h =
-        let same = some_fits xs line_valued.0 (sym some ∙ line_valued.2) in
-        (line_valued.0, line_rising true e (ap (rising old.count x 0) (sym same) ∙ h.0), subst (λ (l : List ℕ). NamesAll old x l new) same h.1)
-    line_read xs (Err k) new e some h =
-        let same = some_fits xs line_valued.0 (sym some ∙ line_valued.2) in
-        line_rising false e (ap (rising old.count x 0) (sym same) ∙ h.0) ∙ ap refused (sym h.1)
+  pub line_read : (xs : List ℕ) (r : Result (Unit {0}) Refusal) (new : Neighbours) → v ≡ x → f ≡ Some xs → Neighboured old x xs r new → LineRead bytes old x r rest new
+  line_read xs (Ok _) new e some h =
+      let same = some_fits xs form.list (sym some ∙ form.fits) in
+      (form.list, line_rising true e (ap (rising old.count x 0) (sym same) ∙ h.0), subst (λ (l : List ℕ). NamesAll old x l new) same h.1)
+  line_read xs (Err k) new e some h =
+      let same = some_fits xs form.list (sym some ∙ form.fits) in
+      line_rising false e (ap (rising old.count x 0) (sym same) ∙ h.0) ∙ ap refused (sym h.1)
 
 -- rows read before the others
 abbrev rows_before : List (List ℕ) → Read (List (List ℕ)) → Outcome (Read (List (List ℕ)))
 rows_before rows r = accepted (record { got = rows ++ r.got; rest = r.rest })
-
-rows_before_none : (o : Outcome (Read (List (List ℕ)))) → and_then o (rows_before []) ≡ o
-rows_before_none (accepted r) = refl
-rows_before_none (refused k) = refl
 
 rows_before_more : (rows : List (List ℕ)) (row : List ℕ) (o : Outcome (Read (List (List ℕ))))
     → and_then (and_then o (row_before row)) (rows_before rows) ≡ and_then o (rows_before (rows ++ row ∷ []))
@@ -110,19 +94,6 @@ pub record LinesOn (bytes : List ℕ) (old now : Neighbours) (here : List ℕ) (
   pub read : and_then (sensor_lines_of old.count (old.count + 1 - x) x here) (rows_before rows) ≡ sensor_lines_of old.count old.count 1 bytes
   pub same : now.count ≡ old.count
   pub named : (a b : ℕ) → at now.rows a b ≡ names rows a b
-
-pub lines_on_none : (bytes : List ℕ) (old : Neighbours) → ((x y : ℕ) → at old.rows x y ≡ false) → LinesOn bytes old old bytes 1
-lines_on_none bytes old none = record {
-  rows = [];
-  long = omega arith;
-  read = let m : old.count + 1 - 1 ≡ old.count = omega arith in rows_before_none _ ∙ ap (λ k. sensor_lines_of old.count k 1 bytes) m;
-  same = refl;
-  named = λ a b. none a b ∙ sym (nobody a b);
-}
-  where
-    nobody : (a b : ℕ) → names [] a b ≡ false
-    nobody zero b = refl
-    nobody (suc a) b = refl
 
 module _ (bytes : List ℕ) (old now : Neighbours) (here : List ℕ) (x : ℕ) (on : LinesOn bytes old now here x) where
   abbrev n : ℕ

@@ -16,7 +16,7 @@ use Rattle.text.specs.Reading.{Read, count_line_of, sensor_lines_of, fence_line_
 use Rattle.text.specs.Lines.{fitting, fitted, LinesRead}
 use Rattle.text.specs.Text.{text}
 use Rattle.text.proofs.Accepting.{accepted_is_text}
-use Rattle.text.proofs.Lists.{fitted_accepted, fitted_refused, none_fits, some_fits}
+use Rattle.text.proofs.Lists.{fitted_accepted, none_fits, some_fits}
 
 -- a survey, and the bytes behind its text
 abbrev pub with_rest : List ℕ → Survey → Outcome (Read Survey)
@@ -41,45 +41,43 @@ no_fence p list l = elim (cases_Bool (leb 3 (length list) && distinct p.count no
 pub judged_long : (p : Neighbours) (list : List ℕ) → 64 < length list → judged (drawn p list) ≡ refused 5
 judged_long p list l = cond-false _ _ _ (no_fence p list l)
 
-module _ (bytes behind : List ℕ) (old : Neighbours) (first : count_line_of bytes ≡ accepted (record { got = old.count; rest = behind })) where
-  pub lines_refused : (k : ℕ) → sensor_lines_of old.count old.count 1 behind ≡ refused k → reading bytes ≡ refused k
-  lines_refused k e = ap (λ o. and_then o of_lines) first ∙ ap (λ o. and_then o (of_fence old.count)) e
+-- the lines are read: neighbours, and a fence that is kept if it fits
+pub record Lined (bytes : List ℕ) (new : Neighbours) (f : Option (List ℕ)) (rest : List ℕ) : Type 0 where
+  pub list : List ℕ
+  pub read : reading bytes ≡ and_then (judged (drawn new list)) (with_rest rest)
+  pub fits : f ≡ fitting list
 
-  module _ (last : List ℕ) (new : Neighbours) (lines : LinesRead behind old (Ok tt) last new) where
-    survey_is : (list : List ℕ) → ◌≡◌ {A = Survey} (record { count = old.count; linked = names lines.0; fence = list }) (drawn new list)
-    survey_is list =
-        ap (λ (f : ℕ → ℕ → Bool). record { count = old.count; linked = f; fence = list }) (fun_ext (λ x. fun_ext (λ y. sym (lines.3 x y))))
-        ∙ ap (λ n. record { count = n; linked = at new.rows; fence = list }) (sym lines.2)
+module _ (bytes behind : List ℕ) (old : Neighbours) (first : count_line_of bytes ≡ accepted (record { got = old.count; rest = behind }))
+    (last : List ℕ) (new : Neighbours) (lines : LinesRead behind old (Ok tt) last new) where
+  survey_is : (list : List ℕ) → ◌≡◌ {A = Survey} (record { count = old.count; linked = names lines.0; fence = list }) (drawn new list)
+  survey_is list =
+      ap (λ (f : ℕ → ℕ → Bool). record { count = old.count; linked = f; fence = list }) (fun_ext (λ x. fun_ext (λ y. sym (lines.3 x y))))
+      ∙ ap (λ n. record { count = n; linked = at new.rows; fence = list }) (sym lines.2)
 
-    -- all lines but the last are read
-    after_lines : reading bytes ≡ and_then (fence_line_of last) (λ fence. and_then (judged (drawn new fence.got)) (with_rest fence.rest))
-    after_lines =
-        ap (λ o. and_then o of_lines) first ∙ ap (λ o. and_then o (of_fence old.count)) lines.1
-        ∙ ap (and_then (fence_line_of last)) (fun_ext (λ fence. ap (λ s. and_then (judged s) (with_rest fence.rest)) (survey_is fence.got)))
+  -- all lines but the last are read
+  after_lines : reading bytes ≡ and_then (fence_line_of last) (λ fence. and_then (judged (drawn new fence.got)) (with_rest fence.rest))
+  after_lines =
+      ap (λ o. and_then o of_lines) first ∙ ap (λ o. and_then o (of_fence old.count)) lines.1
+      ∙ ap (and_then (fence_line_of last)) (fun_ext (λ fence. ap (λ s. and_then (judged s) (with_rest fence.rest)) (survey_is fence.got)))
 
-    pub fence_refused : (k : ℕ) → refused k ≡ fitted (fence_line_of last) → reading bytes ≡ refused k
-    fence_refused k e = after_lines ∙ ap (λ o. and_then o (λ fence. and_then (judged (drawn new fence.got)) (with_rest fence.rest))) (fitted_refused (fence_line_of last) k e)
+  pub lines_read : (f : Option (List ℕ)) (rest : List ℕ) → accepted (record { got = f; rest = rest }) ≡ fitted (fence_line_of last) → Lined bytes new f rest
+  lines_read f rest fence =
+      let p = fitted_accepted (fence_line_of last) f rest fence in
+      record { list = p.0; read = after_lines ∙ ap (λ o. and_then o (λ fence. and_then (judged (drawn new fence.got)) (with_rest fence.rest))) p.1; fits = p.2 }
 
-    -- the last line has the right form, and is kept if it fits
-    module _ (f : Option (List ℕ)) (rest : List ℕ) (fence : accepted (record { got = f; rest = rest }) ≡ fitted (fence_line_of last)) where
-      after_fence : (list : List ℕ) × (reading bytes ≡ and_then (judged (drawn new list)) (with_rest rest)) × (f ≡ fitting list)
-      after_fence =
-          let p = fitted_accepted (fence_line_of last) f rest fence in
-          (p.0, after_lines ∙ ap (λ o. and_then o (λ fence. and_then (judged (drawn new fence.got)) (with_rest fence.rest))) p.1, p.2)
+module _ {bytes : List ℕ} {new : Neighbours} {f : Option (List ℕ)} {rest : List ℕ} (lined : Lined bytes new f rest) where
+  pub fence_long : f ≡ None → reading bytes ≡ refused 5
+  fence_long none = lined.read ∙ ap (λ o. and_then o (with_rest rest)) (judged_long new lined.list (none_fits lined.list (sym none ∙ lined.fits)))
 
-      pub fence_long : f ≡ None → reading bytes ≡ refused 5
-      fence_long none =
-          after_fence.1 ∙ ap (λ o. and_then o (with_rest rest)) (judged_long new after_fence.0 (none_fits after_fence.0 (sym none ∙ after_fence.2)))
-
-      pub survey_read : (xs : List ℕ) (r : Result Plan Refusal) → f ≡ Some xs → outcome survey_of r ≡ judged (drawn new xs)
-          → outcome (λ s. record { got = survey_of s; rest = rest }) r ≡ reading bytes
-      survey_read xs r some e =
-          let same = some_fits xs after_fence.0 (sym some ∙ after_fence.2) in
-          go r ∙ ap (λ o. and_then o (with_rest rest)) e ∙ ap (λ (l : List ℕ). and_then (judged (drawn new l)) (with_rest rest)) same ∙ sym after_fence.1
-        where
-          go : (r : Result Plan Refusal) → outcome (λ s. record { got = survey_of s; rest = rest }) r ≡ and_then (outcome survey_of r) (with_rest rest)
-          go (Ok s) = refl
-          go (Err k) = refl
+  pub survey_read : (xs : List ℕ) (r : Result Plan Refusal) → f ≡ Some xs → outcome survey_of r ≡ judged (drawn new xs)
+      → outcome (λ s. record { got = survey_of s; rest = rest }) r ≡ reading bytes
+  survey_read xs r some e =
+      let same = some_fits xs lined.list (sym some ∙ lined.fits) in
+      go r ∙ ap (λ o. and_then o (with_rest rest)) e ∙ ap (λ (l : List ℕ). and_then (judged (drawn new l)) (with_rest rest)) same ∙ sym lined.read
+    where
+      go : (r : Result Plan Refusal) → outcome (λ s. record { got = survey_of s; rest = rest }) r ≡ and_then (outcome survey_of r) (with_rest rest)
+      go (Ok s) = refl
+      go (Err k) = refl
 
 -- what stands before the bytes that are left is the text, which ends where they begin
 pub record Ends (bytes : List ℕ) (s : Survey) (rest : List ℕ) : Type 0 where

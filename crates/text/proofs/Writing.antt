@@ -49,8 +49,8 @@ pub record Due (old : Writer) (all : List ℕ) (now : Writer) (rest : List ℕ) 
   pub wrote : Wrote old part now
   pub whole : part ++ rest ≡ all
 
-pub due_none : (w : Writer) (all : List ℕ) → Due w all w all
-due_none w all = record { part = []; wrote = wrote_none w; whole = refl }
+pub due_none : (w : Writer) (all rest : List ℕ) → rest ≡ all → Due w all w rest
+due_none w all rest e = record { part = []; wrote = wrote_none w; whole = e }
 
 module _ (old : Writer) (all : List ℕ) (now : Writer) (rest : List ℕ) (due : Due old all now rest) where
   pub due_fits : (xs more : List ℕ) → rest ≡ xs ++ more → Fits old all → Fits now xs

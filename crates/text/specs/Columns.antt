@@ -26,6 +26,7 @@ lead before b =
 abbrev pub last : ℕ → ℕ → Option ℕ
 last before b = cond (digit b) (Some (10 * before + (b - 48))) None
 
+-- the library's option_and_then, with the option first, so that steps are written in their order
 abbrev pub and_next : {A B : Type 0} → Option A → (A → Option B) → Option B
 and_next None f = None
 and_next (Some x) f = f x

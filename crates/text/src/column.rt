@@ -11,19 +11,13 @@ fn read_lead(before: u16, b: u8) -> Option<u16>
     ensures { result ≡ lead before b }
 {
     match classify(b as char) {
-        Symbol::Space => { if before == 0 { Some(0) } else { None } }
-        Symbol::Digit(d) => {
-            if before == 0 && d == 0 {
-                None
-            } else {
-                Some(10 * before + d)
-            }
-        }
+        Symbol::Space if before == 0 => Some(0),
+        Symbol::Digit(d) if before != 0 || d != 0 => Some(10 * before + d),
         _ => None,
     }
 }
 
-// The whole number; `before` is the number up to the place before the last.
+// The whole number; `before` is the number up to the place before the last. The last place is no space, and may be 0 by itself.
 fn read_last(before: u16, b: u8) -> Option<u16>
     requires { before < 1000 }
     ensures { result ≡ last before b }

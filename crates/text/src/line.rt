@@ -15,13 +15,11 @@ fn name_all(neighbours: &mut Neighbours, x: u16, list: &[u16]) -> Result<(), Ref
     requires { (1 ≤ x) × (x ≤ neighbours.old.count) }
     ensures { Neighboured neighbours.old x list.now result neighbours.new }
 {
-    let mut before = 0;
+    if !list.is_sorted_by(|a, b| a < b) {
+        return Err(Refusal::BadNeighbour);
+    }
     for y in list {
-        if *y <= before {
-            return Err(Refusal::BadNeighbour);
-        }
         neighbours.add(x, *y)?;
-        before = *y;
     }
     Ok(())
 }

@@ -4,7 +4,7 @@ ghost use Rattle.text.specs.Lines.{with_number};
 
 use std::marker::Model;
 
-// The numbers are the first `count` of the places. A clause sees their list.
+// The core has no heap, so the numbers are the first `count` of a table's places. A clause sees their list.
 #[derive(Drop)]
 pub(crate) struct Numbers {
     places: [u16; 64],

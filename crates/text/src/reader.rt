@@ -93,7 +93,7 @@ impl<'a> Reader<'a> {
                 Some(Token::Number { value, .. }) => {
                     numbers = numbers.and_then(|list| list.with(value));
                 }
-                Some(Token::Mark { letter, .. }) if letter == ';' => break,
+                Some(Token::Mark { letter: ';', .. }) => break,
                 _ => return Err(Refusal::MalformedLine),
             }
         }

@@ -19,7 +19,7 @@ pub enum Symbol {
     Other,
 }
 
-// What a character is in a survey's text.
+// What a character is in a survey's text. Each character is a literal case, as the rules of the project ask.
 pub fn classify(c: char) -> Symbol
     ensures { result ≡ symbol_of c }
 {

@@ -6,6 +6,7 @@ ghost use Rattle.text.specs.Tokens.{Stands, part_of, part_first, slice_of, place
 use crate::column::number_column;
 use crate::symbol::{Symbol, classify};
 
+// The rules of the project ask that each case holds its slice and its place.
 #[derive(Clone, Copy, Debug)]
 pub enum Token<'a> {
     Number {
@@ -29,10 +30,7 @@ pub fn next_token<'a>(text: &'a [u8], at: usize) -> Option<Token<'a>>
     ensures part { option_map part_of result ≡ part_first (drop at text.now) }
     ensures stands { IfSome result (λ t. Stands text.now at t) }
 {
-    if at >= text.len() {
-        return None;
-    }
-    let letter = text[at] as char;
+    let letter = *text.get(at)? as char;
     match classify(letter) {
         Symbol::Survey | Symbol::Sensor | Symbol::Fence | Symbol::End => {
             Some(Token::Mark {
@@ -45,14 +43,14 @@ pub fn next_token<'a>(text: &'a [u8], at: usize) -> Option<Token<'a>>
             text: &text[at..at + 1],
             at,
         }),
-        Symbol::Space | Symbol::Digit(_) => match number_column(&text[at..]) {
-            Some(value) => Some(Token::Number {
+        Symbol::Space | Symbol::Digit(_) => {
+            let value = number_column(&text[at..])?;
+            Some(Token::Number {
                 text: &text[at..at + 4],
                 at,
                 value,
-            }),
-            None => None,
-        },
+            })
+        }
         Symbol::Other => None,
     }
 }
@@ -63,9 +61,8 @@ impl<'a> Token<'a> {
         ensures { result.now ≡ slice_of self.entry }
     {
         match self {
-            Token::Number { text, .. } => text,
-            Token::Mark { text, .. } => text,
-            Token::LineEnd { text, .. } => text,
+            Token::Mark { text, .. } | Token::LineEnd { text, .. } | Token::Number { text, .. } =>
+                text,
         }
     }
 
@@ -74,9 +71,7 @@ impl<'a> Token<'a> {
         ensures { result ≡ place_of self.entry }
     {
         match self {
-            Token::Number { at, .. } => at,
-            Token::Mark { at, .. } => at,
-            Token::LineEnd { at, .. } => at,
+            Token::Mark { at, .. } | Token::LineEnd { at, .. } | Token::Number { at, .. } => at,
         }
     }
 }

@@ -1,22 +1,23 @@
--- One neighbour more is named, or the list does not rise.
-use Rattle.std.proofs.Common.{refl}
-use Rattle.std.proofs.lemmas.Result.{err_from_is_err_and}
-use Rattle.text.proofs.Naming.{names_on_none, names_on_stops, names_on_refused, names_on_more, names_on_all}
+-- The list does not rise, or one neighbour more is named.
+use Rattle.std.proofs.Common.{refl, sym, ltb, rules}
+use Rattle.std.proofs.lemmas.Bool.{ltb-true, ltb-false}
+use Rattle.std.proofs.lemmas.List.Sorted.{answers_always}
+use Rattle.text.proofs.Rising.{Ascends, rising_unsorted}
+use Rattle.text.proofs.Naming.{names_on_none, names_on_more}
 use Rattle.text.proofs.line.name_all.Goals as goal
 
+pub returns-then-not-is_sorted_by : goal.returns-then-not-is_sorted_by
+returns-then-not-is_sorted_by c =
+    let at = rw c.if-not-is_sorted_by.true at (c.is_sorted_by.ensures.cases ltb (answers_always _ _ _ (λ f a r g h. search rules))) in
+    (rising_unsorted _ _ c.args.list.now at.0 at.1 (ltb-false _ _ (sym (at.2 0))), refl)
+
+ascends : (c : goal.Else-not-is_sorted_by) → Ascends c.args.list.now
+ascends c k l =
+    let all = rw c.if-not-is_sorted_by.false at (c.is_sorted_by.ensures.cases ltb (answers_always _ _ _ (λ f a r g h. search rules))) in
+    ltb-true _ _ (sym (all k 0 l))
+
 pub loop-y-init : goal.loop-y-init
-loop-y-init c = names_on_none _ _ _
-
-pub returns-then-y-before : goal.returns-then-y-before
-returns-then-y-before c = (names_on_stops _ _ _ _ _ _ c.loop-y.invariant c.loop-y-test.true c.if-y-before.true, refl)
-
-pub returns-in_err-add : goal.returns-in_err-add
-returns-in_err-add c =
-    let p = err_from_is_err_and c.from_residual.result c.from_residual.ensures.1 in
-    rw (p.1, p.2) (names_on_refused _ _ _ _ _ _ c.loop-y.invariant _ c.loop-y-test.true c.if-y-before.false c.requires.0 c.requires.1 c.in_err-add.ensures.answer)
+loop-y-init c = names_on_none _ _ _ (ascends c)
 
 pub loop-y-preserved : goal.loop-y-preserved
-loop-y-preserved c = names_on_more _ _ _ _ _ _ c.loop-y.invariant _ c.loop-y-test.true c.if-y-before.false c.requires.0 c.requires.1 c.in_ok-add.ensures.answer
-
-pub returns : goal.returns
-returns c = names_on_all _ _ _ _ _ _ c.loop-y.invariant c.loop-y-test.false
+loop-y-preserved c = names_on_more _ _ _ _ _ c.loop-y.invariant _ c.loop-y-test.true c.requires.0 c.requires.1 c.in_ok-add.ensures.answer

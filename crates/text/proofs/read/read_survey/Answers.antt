@@ -1,5 +1,5 @@
 -- The text ends where the bytes that are left begin.
-use Rattle.std.proofs.Common.{◌≡◌, ap, ◌∙◌, arith, rules}
+use Rattle.std.proofs.Common.{◌≡◌, ◌-◌, length, take, drop, ap, ◌∙◌, arith, rules}
 use Rattle.refusal.specs.Outcomes.{accepted}
 use Rattle.survey.specs.Plans.{survey_of}
 use Rattle.text.specs.Reading.{reading}
@@ -24,10 +24,12 @@ returns-in_err-survey-clause-valid c = accepted_is_valid
 
 pub returns : goal.returns
 returns c =
-    rw c.left.ensures record {
-      answer = ap (λ rest. accepted (record { got = survey_of c.in_ok-survey.survey; rest = rest })) (ends c).behind ∙ survey_read c;
+    let text = c.args.text.now in
+    let place = ap (λ n. length text - n) c.left.ensures in
+    record {
+      answer = ap (λ rest. accepted (record { got = survey_of c.in_ok-survey.survey; rest = rest })) (ap (λ k. drop k text) place ∙ (ends c).behind) ∙ survey_read c;
       within = omega arith;
-      front = (ends c).front;
+      front = ap (λ k. take k text) place ∙ (ends c).front;
       accepted = accepted_is_text;
       valid = accepted_is_valid;
     }

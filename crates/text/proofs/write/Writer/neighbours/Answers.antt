@@ -2,7 +2,6 @@
 use Rattle.std.proofs.Common.{◌+◌, ◌<◌, ◌≤◌, ap, arith}
 use Rattle.survey.specs.Plans.{survey_of}
 use Rattle.survey.proofs.Walks.{below_none}
-use Rattle.text.specs.Writing.{neighbour_columns}
 use Rattle.text.proofs.Writing.{due_none, due_all, below_sensors, columns_among, column_fits, column_wrote, column_passed}
 use Rattle.text.proofs.write.Writer.neighbours.Goals as goal
 use Rattle.text.proofs.write.Writer.neighbours.Goals.{then-linked, else-linked}
@@ -10,7 +9,7 @@ use Rattle.text.proofs.write.Writer.neighbours.Goals.{then-linked, else-linked}
 pub loop-y-init : goal.loop-y-init
 loop-y-init c =
     let s = survey_of c.args.survey.now in
-    rw (ap (columns_among s c.args.x) (below_sensors s _ c.count-y-end.ensures.value)) (due_none c.args.self.now (neighbour_columns s c.args.x))
+    due_none c.args.self.now _ _ (ap (columns_among s c.args.x) (below_sensors s _ (omega arith)))
 
 pub number-requires : goal.number-requires
 number-requires c =

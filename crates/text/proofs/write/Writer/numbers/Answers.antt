@@ -1,13 +1,10 @@
 -- One column more is written.
 use Rattle.std.proofs.Common.{get_or}
-use Rattle.std.proofs.lemmas.List.{at_drop_more, at_drop_all}
+use Rattle.std.proofs.lemmas.List.{at_drop_more}
 use Rattle.survey.specs.Lists.{gather}
 use Rattle.text.specs.Columns.{column}
-use Rattle.text.proofs.Writing.{due_none, due_more, due_all, due_fits}
+use Rattle.text.proofs.Writing.{due_more, due_fits}
 use Rattle.text.proofs.write.Writer.numbers.Goals as goal
-
-pub loop-v-init : goal.loop-v-init
-loop-v-init c = due_none _ _
 
 pub number-requires : goal.number-requires
 number-requires c =
@@ -20,6 +17,3 @@ loop-v-preserved c =
     let list = c.args.list.now in
     let i = c.loop-v.v-index in
     due_more _ _ c.loop-v.self _ c.loop-v.invariant (column (get_or list i 0)) _ c.number.new.self (at_drop_more (gather column) list i 0 c.loop-v-test.true) c.number.ensures
-
-pub returns : goal.returns
-returns c = due_all _ _ c.loop-v.self _ c.loop-v.invariant (at_drop_all (gather column) c.args.list.now c.loop-v.v-index c.loop-v-test.false)
