@@ -80,7 +80,8 @@ impl<'a> Sparse<'a> {
         self.cells[(spot.at - 1) as usize].code = code;
     }
 
-    // Sets the entry of a spot.
+    // Sets the entry of a spot. Inlined, since each step of an addition comes to it.
+    #[inline]
     pub(crate) fn set(&mut self, spot: Spot, code: u16) -> Result<(), Refusal>
         requires { Inside self.old spot }
         ensures answer { told result ≡ put_outcome (terms_of self.old) (matrix_of self.old) (put_at spot.row spot.column code) }
