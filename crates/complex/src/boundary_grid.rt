@@ -79,6 +79,7 @@ impl<'e, 't, 'f> Grid for BoundaryGrid<'e, 't, 'f> {
     }
 
     // What a triangle's boundary or the fence has on an edge, and 1 where a triangle's column meets its own row.
+    #[inline]
     fn entry(&self, row: u32, column: u32) -> u16 {
         let edges = self.edges.len() as u32;
         let triangles = self.triangles.len() as u32;

@@ -81,7 +81,7 @@ impl<'a> Sparse<'a> {
     }
 
     // Sets the entry of a spot. Inlined, since each step of an addition comes to it.
-    #[inline]
+    #[inline(always)]
     pub(crate) fn set(&mut self, spot: Spot, code: u16) -> Result<(), Refusal>
         requires { Inside self.old spot }
         ensures answer { told result ≡ put_outcome (terms_of self.old) (matrix_of self.old) (put_at spot.row spot.column code) }

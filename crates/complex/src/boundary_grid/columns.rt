@@ -17,7 +17,9 @@ fn is_before(row: u32, found: Option<u32>) -> bool
 }
 
 impl<'e, 't, 'f> BoundaryGrid<'e, 't, 'f> {
-    // The row of the edge, if it has one from `first` on: the rows before are not searched.
+    // The row of the edge, if it has one from `first` on: the rows before are not searched. Inlined with `nearer`, since the load asks for
+    // each edge of each column.
+    #[inline(always)]
     fn row_of(&self, first: u32, edge: Edge) -> Option<u32>
         ensures { HasRow self.now.edges.now first edge result }
     {
@@ -32,6 +34,7 @@ impl<'e, 't, 'f> BoundaryGrid<'e, 't, 'f> {
     }
 
     // The nearest of the row found so far and that of the edge, if this is nonzero in the column and lies from `first` on.
+    #[inline(always)]
     fn nearer(&self, column: u32, first: u32, edge: Edge, so_far: Option<u32>) -> Option<u32>
         ensures { Nearer (λ i. (matrix_of self.now).at i column) self.now.edges.now first edge so_far result }
     {
