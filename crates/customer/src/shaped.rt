@@ -1,4 +1,5 @@
 // A customer's store: matrices of the shapes that a rule takes, one code to a place of the memory lent to it, column by column.
+// It is written in full, as a customer would, and not over the dense store.
 ghost use Rattle.std.specs.Prelude.{◌≡◌, ℕ, ◌+◌, ◌-◌, ◌*◌, ◌<◌, ◌≤◌, Bool, length, slice_index, slice_set};
 ghost use Rattle.matrix.specs.Matrix.{count, blank};
 ghost use Rattle.matrix.specs.Layout.{laid_outside};

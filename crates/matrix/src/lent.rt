@@ -1,4 +1,5 @@
-// A grid that is lent is a grid, and a store that is lent is a store.
+// A grid that is lent is a grid, and a store that is lent is a store. Each method is handed on, also the provided ones, since a store may
+// have faster ones of its own.
 ghost use Rattle.matrix.specs.Terms.{upon};
 
 use crate::grid::Grid;

@@ -10,6 +10,8 @@ use crate::put::Put;
 use field::Field;
 use refusal::Refusal;
 
+// An edit's two clauses on what it leaves alone are apart, since proofs cite them one by one; and a shape is told by two numbers, as each
+// caller has them.
 pub trait Store: Grid {
     // The code bound, the shapes taken and the entry limits.
     ghost terms: { Self → Terms };

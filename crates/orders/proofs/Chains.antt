@@ -24,16 +24,6 @@ find_least p k (suc n) = go (p k) (find_least p (suc k) n) (least (λ x. x) p (s
     go true {o = None} e h = refl
     go true {o = Some x} e h = sym (cond-true _ _ _ (le-leb k x (omega (arith, h.0))))
 
--- how many pass a test
-pub length_gather : (p : ℕ → Bool) (xs : List ℕ) → length (filter p xs) ≡ length (gather (λ y. cond (p y) (y ∷ []) []) xs)
-length_gather p [] = refl
-length_gather p (x ∷ xs) = go (p x) (length_gather p xs)
-  where
-    go : (b : Bool) → length (filter p xs) ≡ length (gather (λ y. cond (p y) (y ∷ []) []) xs)
-        → length (cond b (x ∷ filter p xs) (filter p xs)) ≡ length (cond b (x ∷ []) [] ++ gather (λ y. cond (p y) (y ∷ []) []) xs)
-    go true e = ap suc e
-    go false e = e
-
 -- ---- the least key
 
 module _ (key : ℕ → ℕ) where

@@ -10,7 +10,8 @@ use field::Field;
 use matrix::store::Store;
 use refusal::Refusal;
 
-// The store is passed beside it: held here, each method would have to promise anew that the rest stays.
+// The store is passed beside it: held here, each method would have to promise anew that the rest stays. So what the pivots say of the
+// store's columns stands in the methods' contracts.
 #[derive(Drop)]
 pub(crate) struct Reducer<'a, F: Field> {
     pub(crate) field: &'a F,
@@ -20,8 +21,7 @@ pub(crate) struct Reducer<'a, F: Field> {
 
 impl<'a, F: Field> Reducer<'a, F> {
     // Adds the column `from` to the column `to`, so many times that the entry at the row goes: minus the entry of `to` over
-    // that of `from`.
-    // made inline, since as a call it costs some two per cent of a reduction's instructions
+    // that of `from`. Inlined, since as a call it costs some two per cent of a reduction's instructions.
     #[inline(always)]
     pub(crate) fn clear<S: Store>(
         &self,

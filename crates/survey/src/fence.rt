@@ -9,7 +9,7 @@ use crate::neighbours::Neighbours;
 use crate::sensor_set::SensorSet;
 use std::marker::Model;
 
-// Up to 64 sensors, in a table of its own.
+// Up to 64 sensors, in a table of fixed size, since there is no heap here.
 #[derive(Drop)]
 pub(crate) struct Fence {
     table: [u16; MAX_FENCE],

@@ -19,7 +19,7 @@ impl Roster {
         }
     }
 
-    // The sensors that are on, with those of the fence or without them.
+    // The sensors that are on, with those of the fence or without them: one flag, since a closure here would want clauses of its own.
     fn chosen_set(&self, fence: bool) -> SensorSet
         ensures { set_of result ≡ chosen (meaning_of self.now) fence }
     {
