@@ -1,6 +1,6 @@
 // A customer's store: matrices of the shapes that a rule takes, one code to a place of the memory lent to it, column by column.
 // It is written in full, as a customer would, and not over the dense store.
-ghost use Rattle.std.specs.Prelude.{◌≡◌, ℕ, ◌+◌, ◌-◌, ◌*◌, ◌<◌, ◌≤◌, Bool, length, slice_index, slice_set};
+ghost use Rattle.std.specs.Prelude.{◌≡◌, ℕ, ◌+◌, ◌-◌, ◌*◌, ◌<◌, ◌≤◌, Bool, true, length, slice_index, slice_set};
 ghost use Rattle.matrix.specs.Matrix.{count, blank};
 ghost use Rattle.matrix.specs.Layout.{laid_outside};
 ghost use Rattle.matrix.specs.Terms.{itself};
@@ -18,6 +18,9 @@ pub trait ShapeRule {
 
     fn takes(shape: Shape) -> bool
         ensures { result ≡ takes shape.rows shape.columns };
+
+    // A new store has no row and no column.
+    ghost starts: { takes 0 0 ≡ true };
 }
 
 #[derive(Drop)]
@@ -26,6 +29,7 @@ pub struct Shaped<'a, R: ShapeRule> {
     used: u64,
     codes: &'a mut [u16],
     rule: PhantomData<R>,
+    ghost allowed: { R.takes shape.rows shape.columns ≡ true },
     ghost fits: { shape.rows * shape.columns ≤ length codes.now },
     ghost counted: { used ≡ count (shaped shape.rows shape.columns codes.now) },
 }

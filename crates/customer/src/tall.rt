@@ -1,4 +1,5 @@
 // A customer's store of tall matrices.
+ghost use Rattle.std.specs.Prelude.{refl};
 ghost use Rattle.customer.specs.Shapes.{is_tall};
 
 use crate::shaped::{ShapeRule, Shaped};
@@ -9,6 +10,8 @@ pub struct TallRule;
 
 impl ShapeRule for TallRule {
     ghost takes = { is_tall };
+
+    ghost starts = { refl };
 
     fn takes(shape: Shape) -> bool {
         shape.rows >= shape.columns

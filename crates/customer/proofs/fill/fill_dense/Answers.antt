@@ -1,5 +1,5 @@
 -- What a store comes to that was just made of the width that was checked.
-use Rattle.std.proofs.Common.{length, sym, ap, ◌∙◌}
+use Rattle.std.proofs.Common.{length, ap, ◌∙◌}
 use Rattle.refusal.specs.Outcomes.{and_then}
 use Rattle.stores.specs.Dense.{dense_terms}
 use Rattle.customer.specs.Filling.{filled_count}

@@ -4,4 +4,4 @@ use Rattle.matrix.proofs.Counts.{count_empty}
 use Rattle.customer.proofs.shaped.Shaped.new.Goals as goal
 
 pub invariant_of-result : goal.invariant_of-result
-invariant_of-result g c = record { fits = omega arith; counted = sym (count_empty _) }
+invariant_of-result g c = record { allowed = g.met.R.ShapeRule.starts; fits = omega arith; counted = sym (count_empty _) }

@@ -14,6 +14,7 @@ invariant_of-self g c =
     let long : length (take n s.codes.now) ≡ n = omega (arith, length-take n s.codes.now, c.if-size-self.false, c.size.ensures, c.size-2.ensures) in
     let empty = cleared c.fill.new.self (drop n s.codes.now) n (c.args.rows * c.args.columns) (c.fill.ensures.len ∙ long) c.size-2.ensures (λ i k l. c.fill.ensures.clones i k (omega (arith, long)) refl) in
     record {
+      allowed = search rules;
       fits = omega (arith, c.size.ensures, c.if-size-self.false, length-append c.fill.new.self (drop n s.codes.now), c.fill.ensures.len, long, length-drop n s.codes.now);
       counted = shaped_count c.args.rows c.args.columns _ empty;
     }

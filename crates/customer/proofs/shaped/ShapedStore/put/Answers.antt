@@ -36,7 +36,7 @@ invariant_of-self g c =
     let p = place_some s.shape.rows s.shape.columns c.args.row c.args.column c.in_ok-at.at (sym c.in_ok-at.ensures.ok_part ∙ c.place.ensures.place) in
     let put = changed_from s.shape.rows s.shape.columns (λ q. get_or s.codes.now q 0) (λ q. get_or (set s.codes.now c.in_ok-at.at c.args.code) q 0) c.args.row c.args.column c.args.code c.in_ok-at.at (sym c.in_ok-at.ensures.ok_part ∙ c.place.ensures.place)
     (λ q _. written s.codes.now c.in_ok-at.at c.args.code q (omega (arith, p.1, place_lt s.shape.rows s.shape.columns c.args.row c.args.column p.0, s.fits))) in
-    record { fits = omega (arith, s.fits, length-set s.codes.now c.in_ok-at.at c.args.code); counted = (changed_counts _ _ _ _ _ _ _ _ s.used c.not_zero.result c.not_zero-2.result put s.counted c.not_zero.ensures c.not_zero-2.ensures).1 }
+    record { allowed = s.allowed; fits = omega (arith, s.fits, length-set s.codes.now c.in_ok-at.at c.args.code); counted = (changed_counts _ _ _ _ _ _ _ _ s.used c.not_zero.result c.not_zero-2.result put s.counted c.not_zero.ensures c.not_zero-2.ensures).1 }
 
 pub returns-clause-answer : goal.returns-clause-answer
 returns-clause-answer g c =
