@@ -42,15 +42,25 @@ impl From<AllocError> for Fault {
     }
 }
 
+impl fmt::Display for Fault {
+    fn fmt<W: fmt::Write>(&self, f: &mut fmt::Formatter<W>) -> fmt::Result {
+        match self {
+            Fault::Unknown => f.write_str("what?"),
+            Fault::NoRoster => f.write_str("no roster"),
+            Fault::NoField => f.write_str("no field"),
+            Fault::NoMemory => f.write_str("no memory"),
+            Fault::Refused(refusal) => refusal.fmt(f),
+            Fault::Io(error) => error.fmt(f),
+        }
+    }
+}
+
 // Prints why the line came to nothing; where the console itself failed, hands that on.
 pub fn show_fault(rt: &HostRuntime, line: &str, fault: Fault) -> io::Result<()> {
     match fault {
-        Fault::Unknown => println!(rt; "what? {line}"),
-        Fault::NoRoster => println!(rt; "no roster"),
-        Fault::NoField => println!(rt; "no field"),
-        Fault::NoMemory => println!(rt; "no memory"),
-        Fault::Refused(refusal) => println!(rt; "{refusal}"),
         Fault::Io(error) => Err(error),
+        Fault::Unknown => println!(rt; "{fault} {line}"),
+        _ => println!(rt; "{fault}"),
     }
 }
 
@@ -78,21 +88,26 @@ pub fn show_survey(rt: &HostRuntime, survey: &Survey) -> Result<(), Fault> {
     Ok(())
 }
 
-// A sensor's letter.
-fn letter(state: State) -> char {
-    match state {
-        State::Fence => 'F',
-        State::On => '1',
-        State::Off => '0',
+// A roster's sensors, one letter each.
+#[derive(Clone, Copy)]
+struct Letters<'a>(&'a Roster);
+
+impl<'a> fmt::Display for Letters<'a> {
+    fn fmt<W: fmt::Write>(&self, f: &mut fmt::Formatter<W>) -> fmt::Result {
+        for x in 1..=self.0.survey().count() {
+            match self.0.state(x) {
+                Some(State::Fence) => f.write_char('F')?,
+                Some(State::On) => f.write_char('1')?,
+                Some(State::Off) => f.write_char('0')?,
+                None => {}
+            }
+        }
+        Ok(())
     }
 }
 
-// One letter a sensor.
+// Shows the states of a roster's sensors.
 pub fn show_roster(rt: &HostRuntime, roster: &Roster) -> Result<(), Fault> {
-    let letters: String = (1..=roster.survey().count())
-        .filter_map(|x| roster.state(x))
-        .map(letter)
-        .collect(rt.alloc())?;
-    println!(rt; "{letters}")?;
+    println!(rt; "{}", Letters(roster))?;
     Ok(())
 }

@@ -7,11 +7,14 @@ ghost use Rattle.field.specs.BinaryLaws.{binary_laws};
 ghost use Rattle.field.specs.ResidueLaws.{prime_laws};
 ghost use Rattle.hall.specs.declared.fields.AnyField.TheVariants.{Two, Prime, Four, Nine};
 
+use crate::answers::Fault;
+use crate::numbers::number;
 use customer::gf4::Gf4;
 use customer::gf9::Gf9;
 use field::Field;
 use field::gf2::Gf2;
 use field::gfp::GfP;
+use std::str::FromStr;
 
 #[derive(Clone, Copy)]
 pub enum AnyField {
@@ -19,6 +22,23 @@ pub enum AnyField {
     Prime(GfP),
     Four(Gf4),
     Nine(Gf9),
+}
+
+// The field that a line chooses.
+impl FromStr for AnyField {
+    type Err = Fault;
+
+    fn from_str(rest: &str) -> Result<AnyField, Fault> {
+        match rest {
+            "gf2" => Ok(AnyField::Two(Gf2)),
+            "gf4" => Ok(AnyField::Four(Gf4)),
+            "gf9" => Ok(AnyField::Nine(Gf9)),
+            _ => {
+                let modulus = rest.strip_prefix("gfp ").ok_or(Fault::Unknown)?;
+                Ok(AnyField::Prime(GfP::new(number(modulus, u16::MAX)?)?))
+            }
+        }
+    }
 }
 
 // The call at the field that was chosen, whichever it is.

@@ -26,7 +26,7 @@ fn talk<S: Store>(
     session: &mut Session,
     store: &mut S,
 ) -> io::Result<Option<Kind>> {
-    // as many turns as a number can count, since each loop ends
+    // counted, since every loop has to end
     for _ in 0..u64::MAX {
         let mut line = String::new(rt.alloc());
         if session.lines.read_line(&mut line)? == 0 {
@@ -67,10 +67,10 @@ fn main(rt: HostRuntime) -> io::Result<()> {
         roster: None,
         field: None,
     };
-    let mut next = EntryWidth::check(8)
+    let mut next = EntryWidth::try_from(8)
         .ok()
         .map(|width| Kind::Dense { width, bytes: 0 });
-    // as many turns as a number can count, since each loop ends
+    // counted, since every loop has to end
     for _ in 0..u64::MAX {
         let Some(kind) = next else {
             break;

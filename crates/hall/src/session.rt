@@ -4,12 +4,8 @@ use crate::fields::AnyField;
 use crate::lists::show_complex;
 use crate::numbers::{number, two_numbers};
 use crate::quote::{Quoted, unquoted};
-use crate::storage::{Kind, asked_for, begin, entry, put, shape};
-use customer::gf4::Gf4;
-use customer::gf9::Gf9;
+use crate::storage::{Kind, begin, entry, put, shape};
 use field::Field;
-use field::gf2::Gf2;
-use field::gfp::GfP;
 use matrix::store::Store;
 use std::io::{BufReader, Stdin};
 use verifier::roster::Roster;
@@ -40,7 +36,7 @@ impl Session {
         };
         match word {
             "store" => {
-                let kind = asked_for(rest)?;
+                let kind = rest.parse()?;
                 println!(rt; "ok")?;
                 return Ok(Some(kind));
             }
@@ -72,36 +68,52 @@ impl Session {
         }
     }
 
-    // Answers a command on text, roster and field.
+    // Answers a command on text, roster and field. A number above 65,535 counts as 65,535, which is no code of a field here.
     fn answer_words(&mut self, rt: &HostRuntime, word: &str, rest: &str) -> Result<(), Fault> {
         match word {
             "text" => self.add_text(rt, rest),
             "write" => self.write(rt, rest),
             "field" => self.choose_field(rt, rest),
-            "sum" => self.of_two(rt, rest, |field, a, b| field.sum(a, b)),
-            "product" => self.of_two(rt, rest, |field, a, b| field.product(a, b)),
-            "negative" => self.of_one(rt, rest, |field, a| field.negative(a)),
-            "inverse" => self.of_one(rt, rest, |field, a| field.inverse(a)),
+            "sum" => {
+                let (a, b) = two_numbers(rest, u16::MAX)?;
+                self.show_code(rt, |field| field.sum(a, b))
+            }
+            "product" => {
+                let (a, b) = two_numbers(rest, u16::MAX)?;
+                self.show_code(rt, |field| field.product(a, b))
+            }
+            "negative" => {
+                let a = number(rest, u16::MAX)?;
+                self.show_code(rt, |field| field.negative(a))
+            }
+            "inverse" => {
+                let a = number(rest, u16::MAX)?;
+                self.show_code(rt, |field| field.inverse(a))
+            }
             _ => Err(Fault::Unknown),
         }
     }
 
+    // The roster that was read last.
     fn roster(&self) -> Result<&Roster, Fault> {
         self.roster.as_ref().ok_or(Fault::NoRoster)
     }
 
+    // Adds bytes in quotes to the text.
     fn add_text(&mut self, rt: &HostRuntime, rest: &str) -> Result<(), Fault> {
         let bytes = unquoted(rt.alloc(), rest.as_bytes())?.ok_or(Fault::Unknown)?;
         self.text.extend_from_slice(&bytes)?;
         Ok(())
     }
 
+    // Reads the text as a roster, and shows its survey.
     fn read(&mut self, rt: &HostRuntime) -> Result<(), Fault> {
         let place = read(&mut self.roster, &self.text)?;
         println!(rt; "ok {place}")?;
         show_survey(rt, self.roster()?.survey())
     }
 
+    // Writes the roster to a buffer of so many bytes, and shows all of it.
     fn write(&self, rt: &HostRuntime, rest: &str) -> Result<(), Fault> {
         let length = rest.parse::<usize>()?;
         let roster = self.roster()?;
@@ -116,52 +128,25 @@ impl Session {
         Ok(())
     }
 
+    // Chooses a field, and shows its order.
     fn choose_field(&mut self, rt: &HostRuntime, rest: &str) -> Result<(), Fault> {
-        let field = match rest {
-            "gf2" => AnyField::Two(Gf2),
-            "gf4" => AnyField::Four(Gf4),
-            "gf9" => AnyField::Nine(Gf9),
-            _ => {
-                let modulus = rest.strip_prefix("gfp ").ok_or(Fault::Unknown)?;
-                AnyField::Prime(GfP::new(number(modulus, u16::MAX)?)?)
-            }
-        };
+        let field: AnyField = rest.parse()?;
         self.field = Some(field);
         let order = field.order();
         println!(rt; "ok {order}")?;
         Ok(())
     }
 
+    // The field that was chosen last.
     fn field(&self) -> Result<&AnyField, Fault> {
         self.field.as_ref().ok_or(Fault::NoField)
     }
 
-    // Computes with two codes; a number above 65,535 counts as 65,535, which is no code of a field here.
-    fn of_two<F: Fn(&AnyField, u16, u16) -> u16>(
-        &self,
-        rt: &HostRuntime,
-        rest: &str,
-        compute: F,
-    ) -> Result<(), Fault>
+    // Shows the code that the field computes.
+    fn show_code<F: Fn(&AnyField) -> u16>(&self, rt: &HostRuntime, compute: F) -> Result<(), Fault>
         requires { F.IsAlwaysCallable compute }
     {
-        let (a, b) = two_numbers(rest, u16::MAX)?;
-        let code = compute(self.field()?, a, b);
-        println!(rt; "{code}")?;
-        Ok(())
-    }
-
-    // The same with one.
-    fn of_one<F: Fn(&AnyField, u16) -> u16>(
-        &self,
-        rt: &HostRuntime,
-        rest: &str,
-        compute: F,
-    ) -> Result<(), Fault>
-        requires { F.IsAlwaysCallable compute }
-    {
-        let a = number(rest, u16::MAX)?;
-        let code = compute(self.field()?, a);
+        let code = compute(self.field()?);
         println!(rt; "{code}")?;
         Ok(())
     }

@@ -3,6 +3,7 @@ use crate::answers::Fault;
 use crate::numbers::{number, split, two_numbers};
 use matrix::store::Store;
 use refusal::Refusal;
+use std::str::FromStr;
 use stores::width::EntryWidth;
 
 // A store that was asked for.
@@ -13,22 +14,27 @@ pub enum Kind {
 }
 
 // The store that a line asks for.
-pub fn asked_for(rest: &str) -> Result<Kind, Fault> {
-    let (word, sizes) = split(rest)?;
-    let (first, second) = two_numbers(sizes, u32::MAX)?;
-    match word {
-        "dense" => Ok(Kind::Dense {
-            width: EntryWidth::check(first)?,
-            bytes: second as usize,
-        }),
-        "sparse" => Ok(Kind::Sparse {
-            cells: first as usize,
-            heads: second as usize,
-        }),
-        _ => Err(Fault::Unknown),
+impl FromStr for Kind {
+    type Err = Fault;
+
+    fn from_str(rest: &str) -> Result<Kind, Fault> {
+        let (word, sizes) = split(rest)?;
+        let (first, second) = two_numbers(sizes, u32::MAX)?;
+        match word {
+            "dense" => Ok(Kind::Dense {
+                width: EntryWidth::try_from(first)?,
+                bytes: second as usize,
+            }),
+            "sparse" => Ok(Kind::Sparse {
+                cells: first as usize,
+                heads: second as usize,
+            }),
+            _ => Err(Fault::Unknown),
+        }
     }
 }
 
+// Begins the store with so many rows and columns.
 pub fn begin<S: Store>(rt: &HostRuntime, store: &mut S, rest: &str) -> Result<(), Fault> {
     let (rows, columns) = two_numbers(rest, u32::MAX)?;
     store.begin(rows, columns)?;
@@ -47,6 +53,7 @@ fn put_number<S: Store>(store: &mut S, row: u32, column: u32, number: u64) -> Re
     }
 }
 
+// Puts a code at a row and a column.
 pub fn put<S: Store>(rt: &HostRuntime, store: &mut S, rest: &str) -> Result<(), Fault> {
     let (row, rest) = split(rest)?;
     let (column, code) = split(rest)?;
@@ -57,6 +64,7 @@ pub fn put<S: Store>(rt: &HostRuntime, store: &mut S, rest: &str) -> Result<(), 
     Ok(())
 }
 
+// Shows the entry at a row and a column.
 pub fn entry<S: Store>(rt: &HostRuntime, store: &S, rest: &str) -> Result<(), Fault> {
     let (row, column) = two_numbers(rest, u32::MAX)?;
     let code = store.entry(row, column);
@@ -64,6 +72,7 @@ pub fn entry<S: Store>(rt: &HostRuntime, store: &S, rest: &str) -> Result<(), Fa
     Ok(())
 }
 
+// Shows how many rows, columns and nonzero entries there are.
 pub fn shape<S: Store>(rt: &HostRuntime, store: &S) -> Result<(), Fault> {
     let rows = store.rows();
     let columns = store.columns();

@@ -2,48 +2,42 @@
 // The order is that of the field, and the store is `sparse` or the number of bits of a dense store's entries.
 #![tactic(auto)]
 
+mod asked;
 mod runs;
 mod stop;
 
+use asked::{Asked, read_args};
 use field::gf2::Gf2;
 use field::gfp::GfP;
-use runs::{Answer, over};
+use runs::{Answer, Runs};
 use std::{env, fs, io};
 use stop::Stop;
 use text::read::read_survey;
 
-// What the command line asks for.
-#[derive(Drop)]
-struct Asked {
-    file: String,
-    order: u16,
-    store: String,
-    times: u32,
-}
-
-fn read_args(mut args: env::Args) -> Option<Asked> {
-    let _ = args.next();
-    let file = args.next()?;
-    let order = args.next()?.as_str().parse().ok()?;
-    let store = args.next()?;
-    let times = args.next()?.as_str().parse().ok()?;
-    Some(Asked {
-        file,
-        order,
-        store,
-        times,
-    })
-}
-
-// Reads the survey, and chooses the field.
+// Reads the survey, and chooses field and store.
 fn find_answer(rt: &HostRuntime, asked: &Asked) -> Result<Answer, Stop> {
     let text = fs::read(rt, asked.file.as_str())?;
     let (survey, _) = read_survey(text.as_slice())?;
+    let survey = &survey;
+    let times = asked.times;
     if asked.order == 2 {
-        return over(rt, &survey, &Gf2, asked.store.as_str(), asked.times);
+        let field = &Gf2;
+        let runs = Runs {
+            rt,
+            survey,
+            field,
+            times,
+        };
+        return runs.answer(asked.store.parse()?);
     }
-    let field = GfP::new(asked.order)?;
-    over(rt, &survey, &field, asked.store.as_str(), asked.times)
+    let field = &GfP::new(asked.order)?;
+    let runs = Runs {
+        rt,
+        survey,
+        field,
+        times,
+    };
+    runs.answer(asked.store.parse()?)
 }
 
 fn main(rt: HostRuntime) -> io::Result<()> {

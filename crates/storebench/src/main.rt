@@ -7,6 +7,7 @@ use matrix::store::Store;
 use refusal::Refusal;
 use sparse::cell::Cell;
 use sparse::sparse::Sparse;
+use std::alloc::AllocError;
 use std::{env, io};
 use stores::dense::Dense;
 use stores::width::EntryWidth;
@@ -23,22 +24,43 @@ enum Operation {
 }
 
 // Any other word is a filling alone.
-fn named(word: &str) -> Operation {
-    match word {
-        "begin" => Operation::Begin,
-        "add" => Operation::Add,
-        "low" => Operation::Low,
-        "dense" => Operation::Dense,
-        "next" => Operation::Next,
-        _ => Operation::Fill,
+impl From<&str> for Operation {
+    fn from(word: &str) -> Operation {
+        match word {
+            "begin" => Operation::Begin,
+            "add" => Operation::Add,
+            "low" => Operation::Low,
+            "dense" => Operation::Dense,
+            "next" => Operation::Next,
+            _ => Operation::Fill,
+        }
+    }
+}
+
+// Why there is no answer.
+#[derive(Drop)]
+enum Stop {
+    Refused(Refusal),
+    NoMemory(AllocError),
+}
+
+impl From<Refusal> for Stop {
+    fn from(refusal: Refusal) -> Stop {
+        Stop::Refused(refusal)
+    }
+}
+
+impl From<AllocError> for Stop {
+    fn from(error: AllocError) -> Stop {
+        Stop::NoMemory(error)
     }
 }
 
 // Fills the columns 1 and 2 with `size` entries each, from the last row up, so that each put is at the head of its chain.
 fn two_columns<S: Store>(store: &mut S, size: u32) -> Result<(), Refusal> {
     store.begin(65535, 2)?;
-    for k in 0..size {
-        let row = (size - k).min(20000);
+    for row in (1..=size).rev() {
+        let row = row.min(20000);
         store.put(3 * row, 1, 1)?;
         store.put(2 * row, 2, 1)?;
     }
@@ -60,11 +82,11 @@ fn on_sparse(store: &mut Sparse<'_>, what: Operation, size: u32) -> Result<u64, 
     Ok(store.nonzero())
 }
 
-fn sparse(rt: &HostRuntime, what: Operation, size: u32) -> io::Result<Result<u64, Refusal>> {
+fn sparse(rt: &HostRuntime, what: Operation, size: u32) -> Result<u64, Stop> {
     let mut cells = vec![in rt.alloc(); Cell::default(); 60000]?;
     let mut heads = vec![in rt.alloc(); 0u16; 60000]?;
     let mut store = Sparse::new(&mut cells, &mut heads);
-    Ok(on_sparse(&mut store, what, size))
+    Ok(on_sparse(&mut store, what, size)?)
 }
 
 // The one nonzero entry of a column of `size` rows, found from its first row.
@@ -78,28 +100,33 @@ fn on_dense(bytes: &mut [u8], what: Operation, size: u32) -> Result<u64, Refusal
     }
 }
 
-fn dense(rt: &HostRuntime, what: Operation, size: u32) -> io::Result<Result<u64, Refusal>> {
+fn dense(rt: &HostRuntime, what: Operation, size: u32) -> Result<u64, Stop> {
     let mut bytes = vec![in rt.alloc(); 0u8; 1000000]?;
-    Ok(on_dense(&mut bytes, what, size))
+    Ok(on_dense(&mut bytes, what, size)?)
+}
+
+// What the command line asks for.
+fn read_args(mut args: env::Args) -> Option<(Operation, u32)> {
+    let _ = args.next();
+    let what = args.next()?;
+    let size = args.next()?.as_str().parse().ok()?;
+    Some((Operation::from(what.as_str()), size))
 }
 
 fn main(rt: HostRuntime) -> io::Result<()> {
-    let mut args = env::args(&rt)?;
-    let _ = args.next();
-    let Some(what) = args.next() else {
+    let Some((what, size)) = read_args(env::args(&rt)?) else {
         return println!(rt; "storebench WHAT SIZE");
     };
-    let Some(text) = args.next() else {
-        return println!(rt; "storebench WHAT SIZE");
-    };
-    let Ok(size) = text.as_str().parse::<u32>() else {
-        return println!(rt; "storebench WHAT SIZE");
-    };
-    let what = named(what.as_str());
     let outcome = match what {
-        Operation::Dense | Operation::Next => dense(&rt, what, size)?,
-        _ => sparse(&rt, what, size)?,
+        Operation::Dense | Operation::Next => dense(&rt, what, size),
+        _ => sparse(&rt, what, size),
     };
-    let answer = outcome.unwrap_or_else(|refusal| refusal.number() as u64);
-    println!(rt; "{answer}")
+    match outcome {
+        Ok(answer) => println!(rt; "{answer}"),
+        Err(Stop::Refused(refusal)) => {
+            let number = refusal.number();
+            println!(rt; "{number}")
+        }
+        Err(Stop::NoMemory(error)) => Err(error.into()),
+    }
 }

@@ -1,7 +1,5 @@
 // The hub's lists and starting matrix, and one filling on stores of each kind.
-use crate::halls::HUB;
-use complex::boundary_grid::BoundaryGrid;
-use complex::listing::{list_edges, list_triangles};
+use crate::halls::Hub;
 use customer::fill::{fill, fill_dense};
 use matrix::grid::Grid;
 use matrix::put::Put;
@@ -10,8 +8,6 @@ use sparse::cell::Cell;
 use sparse::sparse::Sparse;
 use std::iter::successors;
 use std::test::Fail;
-use survey::edge::{Edge, Triangle};
-use text::read::read_survey;
 
 // How many entries of the grid are not 0, by reading each and by going from one to the next.
 fn nonzero<G: Grid>(grid: &G) -> (usize, usize) {
@@ -32,13 +28,10 @@ fn nonzero<G: Grid>(grid: &G) -> (usize, usize) {
 
 #[test]
 fn the_hub_has_twenty_entries(rt: HostRuntime) -> Result<(), Fail> {
-    let (survey, _) = read_survey(HUB)?;
-    let on = survey.all();
-    let mut edges = [Edge { a: 0, b: 0 }; 8];
-    let mut triangles = [Triangle { a: 0, b: 0, c: 0 }; 4];
-    assert_eq!(rt; list_edges(&survey, &on, &mut edges)?, 8);
-    assert_eq!(rt; list_triangles(&survey, &on, &mut triangles)?, 4);
-    let grid = BoundaryGrid::new(&edges, &triangles, survey.fence(), 2);
+    let hub = Hub::listed()?;
+    assert_eq!(rt; hub.edge_count, 8);
+    assert_eq!(rt; hub.triangle_count, 4);
+    let grid = hub.grid();
     let (read, met) = nonzero(&grid);
     assert_eq!(rt; read, 20);
     assert_eq!(rt; met, 20);

@@ -1,7 +1,5 @@
 // The hub solved over GF(3) in each kind of store, and in one that is full before the end.
-use crate::halls::HUB;
-use complex::boundary_grid::BoundaryGrid;
-use complex::listing::{list_edges, list_triangles};
+use crate::halls::Hub;
 use customer::tall::Tall;
 use field::gfp::GfP;
 use homology::kind::Kind;
@@ -15,20 +13,12 @@ use std::process::Abort;
 use std::test::Fail;
 use stores::dense::Dense;
 use stores::width::EntryWidth;
-use survey::edge::{Edge, Triangle};
-use text::read::read_survey;
 
 // What solving the hub comes to in the store; nine places for codes, of which the ninth is beyond.
 fn solved<S: Store>(store: &mut S, codes: &mut [u16; 9]) -> Result<Verdict, Refusal> {
-    let (survey, _) = read_survey(HUB)?;
-    let on = survey.all();
-    let mut edges = [Edge { a: 0, b: 0 }; 8];
-    let mut triangles = [Triangle { a: 0, b: 0, c: 0 }; 4];
-    list_edges(&survey, &on, &mut edges)?;
-    list_triangles(&survey, &on, &mut triangles)?;
-    let grid = BoundaryGrid::new(&edges, &triangles, survey.fence(), 2);
+    let hub = Hub::listed()?;
     let field = GfP::new(3)?;
-    solve(&field, &grid, store, codes)
+    solve(&field, &hub.grid(), store, codes)
 }
 
 // The filling 1 2 1 1 by four additions, the other places as they were, and the store empty in its shape.
@@ -51,10 +41,10 @@ fn is_empty<S: Store>(rt: &impl Abort, store: &S) {
 #[test]
 fn each_store_gives_the_same_answer(rt: HostRuntime) -> Result<(), Fail> {
     let mut bytes = [255u8; 60];
-    let mut dense = Dense::new(EntryWidth::check(8)?, &mut bytes);
+    let mut dense = Dense::new(EntryWidth::try_from(8)?, &mut bytes);
     is_solved(&rt, &mut dense)?;
     let mut packed = [255u8; 15];
-    let mut narrow = Dense::new(EntryWidth::check(2)?, &mut packed);
+    let mut narrow = Dense::new(EntryWidth::try_from(2)?, &mut packed);
     is_solved(&rt, &mut narrow)?;
     let mut memory = [9u16; 60];
     let mut tall = Tall::new(&mut memory);
@@ -75,13 +65,13 @@ fn the_hub_needs_room_for_26_entries(rt: HostRuntime) -> Result<(), Fail> {
     assert_eq!(rt; codes, [7; 9]);
     is_empty(&rt, &sparse);
     let mut one = [255u8; 8];
-    let mut narrow = Dense::new(EntryWidth::check(1)?, &mut one);
+    let mut narrow = Dense::new(EntryWidth::try_from(1)?, &mut one);
     assert_eq!(rt;
         solved(&mut narrow, &mut codes),
         Err(Refusal::FieldTooLarge)
     );
     let mut short = [255u8; 14];
-    let mut dense = Dense::new(EntryWidth::check(2)?, &mut short);
+    let mut dense = Dense::new(EntryWidth::try_from(2)?, &mut short);
     assert_eq!(rt; solved(&mut dense, &mut codes), Err(Refusal::ShapeNotTaken));
     Ok(())
 }
