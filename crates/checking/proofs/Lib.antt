@@ -1,5 +1,6 @@
 -- Lemmas of the crate.
 mod Terms
+mod Ranges
 mod Agreeing
 mod Starting
 mod Verdicts

@@ -5,13 +5,10 @@ use Rattle.refusal.specs.declared.Refusal.TheVariants.{NotACode}
 use Rattle.refusal.specs.Numbers.{number_of}
 use Rattle.refusal.specs.Outcomes.{accepted, refused}
 use Rattle.field.specs.Arithmetic.{Arithmetic}
-use Rattle.matrix.specs.Matrix.{Matrix}
 use Rattle.complex.specs.Systems.{Vector, System}
 use Rattle.homology.specs.Certificate.{vector}
 use Rattle.homology.specs.declared.kind.Kind.{Kind}
-use Rattle.homology.specs.declared.kind.Kind.TheVariants.{Filling, Block}
 use Rattle.checking.specs.Claims.{has_outside_of, has_nonzero_of, size, forms, verdict}
-use Rattle.checking.specs.Equations.{solves, separates, system_in}
 
 module _ (F : Arithmetic) (S : System) (claim : Kind) (codes : List ℕ) (n : ℕ) (enough : n ≤ length codes) (whole : n ≡ size claim S.rows S.columns) where
   told : verdict F S claim codes ≡ cond (has_outside_of F (take n codes)) (refused (number_of NotACode)) (accepted (has_nonzero_of (take n codes) && forms F S claim (vector (take n codes))))
@@ -23,10 +20,6 @@ module _ (F : Arithmetic) (S : System) (claim : Kind) (codes : List ℕ) (n : �
       → accepted b ≡ verdict F S claim codes
   verdict_formed b o z t = ap₂ (λ a b. accepted (a && b)) z t ∙ sym (told ∙ cond-false _ _ _ (sym o))
 
--- what the tests on a grid tell, with as many codes as the claim takes
-module _ (F : Arithmetic) (m : Matrix) (claim : Kind) (x : Vector) (b : Bool) where
-  pub forms_filling : (rows columns n : ℕ) → claim ≡ Filling → n ≡ columns → b ≡ solves F (system_in rows n m) x → b ≡ forms F (system_in rows columns m) claim x
-  forms_filling rows columns n e k t = t ∙ ap (λ n. solves F (system_in rows n m) x) k ∙ ap (λ claim. forms F (system_in rows columns m) claim x) (sym e)
-
-  pub forms_block : (rows columns n : ℕ) → claim ≡ Block → n ≡ rows → b ≡ separates F (system_in n columns m) x → b ≡ forms F (system_in rows columns m) claim x
-  forms_block rows columns n e k t = t ∙ ap (λ n. separates F (system_in n columns m) x) k ∙ ap (λ claim. forms F (system_in rows columns m) claim x) (sym e)
+-- what the test of one kind tells of a claim of that kind
+pub forms_claim : (F : Arithmetic) (S : System) (claim kind : Kind) (x : Vector) (b : Bool) → claim ≡ kind → b ≡ forms F S kind x → b ≡ forms F S claim x
+forms_claim F S claim kind x b e t = t ∙ ap (λ claim. forms F S claim x) (sym e)

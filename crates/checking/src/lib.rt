@@ -11,13 +11,13 @@ ghost use Rattle.checking.specs.Theorems.{CheckDecides};
 
 use complex::boundary_grid::BoundaryGrid;
 use complex::listing::{list_edges, list_triangles};
+use equations::Equations;
 use field::Field;
 use homology::kind::Kind;
 use refusal::Refusal;
 use survey::edge::{Edge, Triangle};
 use survey::plan::Survey;
 use survey::sensor_set::SensorSet;
-use verdict::judge;
 
 mod codes;
 mod equations;
@@ -36,6 +36,7 @@ pub fn check<F: Field>(
 ) -> Result<bool, Refusal>
     ensures { outcome (λ yes. yes) result ≡ checked (survey_of survey.now) (set_of on.now) (F.arithmetic field.now) claim codes.now }
 {
+    // tables of fixed size with a count beside each, since there is no heap here
     let mut edges = [Edge { a: 0, b: 0 }; 512];
     let mut triangles = [Triangle { a: 0, b: 0, c: 0 }; 1024];
     let edge_count = list_edges(survey, on, &mut edges)?;
@@ -46,23 +47,22 @@ pub fn check<F: Field>(
         survey.fence(),
         field.negative(1),
     );
-    judge(
+    let equations = Equations {
         field,
-        &grid,
-        edge_count as u32,
-        triangle_count as u32,
-        claim,
-        codes,
-    )
+        grid: &grid,
+        rows: edge_count as u32,
+        columns: triangle_count as u32,
+    };
+    equations.judge(claim, codes)
 }
 
 // Yes says that the codes form what is claimed, and no that they do not, unless they are zeros. Where the fence is on, zeros form
 // nothing either, and every filling and every block is answered by yes.
-pub fn check_decides() -> ()
+pub fn check_decides()
     ensures { CheckDecides }
 {}
 
 // Claims for a small hall, each answered as the definition computes.
-pub fn hub_checked() -> ()
+pub fn hub_checked()
     ensures { HubChecks }
 {}

@@ -10,8 +10,8 @@ use survey::sensor_set::SensorSet;
 
 fn nineteen() -> Result<Survey, Refusal> {
     let mut neighbours = Neighbours::new(19)?;
-    for x in 1..20u16 {
-        for y in 1..20u16 {
+    for x in 1..=19u16 {
+        for y in 1..=19u16 {
             if x != y {
                 neighbours.add(x, y)?;
             }

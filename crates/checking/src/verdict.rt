@@ -1,11 +1,9 @@
 // The check on any grid, read as a system of so many rows and columns with the column after them as its target.
-ghost use Rattle.std.specs.Prelude.{◌≡◌, ◌≤◌};
-ghost use Rattle.refusal.specs.Outcomes.{outcome};
-ghost use Rattle.checking.specs.Claims.{verdict as verdict_of, size as size_of};
-ghost use Rattle.checking.specs.Equations.{system_in};
+ghost use Rattle.std.specs.Prelude.{◌≡◌};
+ghost use Rattle.checking.specs.Claims.{size as size_of};
 
 use crate::codes::{has_nonzero, has_outside};
-use crate::equations::{separates, solves};
+use crate::equations::Equations;
 use field::Field;
 use homology::kind::Kind;
 use matrix::grid::Grid;
@@ -21,30 +19,29 @@ fn size(claim: Kind, rows: u32, columns: u32) -> u32
     }
 }
 
-pub(crate) fn judge<F: Field, G: Grid>(
-    field: &F,
-    grid: &G,
-    rows: u32,
-    columns: u32,
-    claim: Kind,
-    codes: &[u16],
-) -> Result<bool, Refusal>
-    requires { (rows ≤ 512) × (columns ≤ 1024) }
-    ensures { outcome (λ yes. yes) result ≡ verdict_of (F.arithmetic field.now) (system_in rows columns (G.holds grid.now)) claim codes.now }
-{
-    let size = size(claim, rows, columns) as usize;
-    if codes.len() < size {
-        return Err(Refusal::TooShort);
+impl<'a, F: Field, G: Grid> Equations<'a, F, G> {
+    ghost use Rattle.refusal.specs.Outcomes.{outcome};
+    ghost use Rattle.checking.specs.Claims.{verdict as verdict_of};
+    ghost use Rattle.checking.specs.Equations.{system_in};
+
+    // Do the codes at the front of the list form what is claimed? A list of zeros does not.
+    pub(crate) fn judge(&self, claim: Kind, codes: &[u16]) -> Result<bool, Refusal>
+        ensures { outcome (λ yes. yes) result ≡ verdict_of (F.arithmetic self.now.field.now) (system_in self.now.rows self.now.columns (G.holds self.now.grid.now)) claim codes.now }
+    {
+        let size = size(claim, self.rows, self.columns) as usize;
+        if codes.len() < size {
+            return Err(Refusal::TooShort);
+        }
+        let claimed = &codes[..size];
+        if has_outside(self.field, claimed) {
+            return Err(Refusal::NotACode);
+        }
+        if !has_nonzero(claimed) {
+            return Ok(false);
+        }
+        Ok(match claim {
+            Kind::Filling => self.solves(claimed),
+            Kind::Block => self.separates(claimed),
+        })
     }
-    let claimed = &codes[..size];
-    if has_outside(field, claimed) {
-        return Err(Refusal::NotACode);
-    }
-    if !has_nonzero(claimed) {
-        return Ok(false);
-    }
-    Ok(match claim {
-        Kind::Filling => solves(field, grid, rows, claimed),
-        Kind::Block => separates(field, grid, columns, claimed),
-    })
 }

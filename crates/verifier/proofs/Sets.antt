@@ -16,28 +16,45 @@ use Rattle.survey.proofs.Lists.{member_push, member_sift, member_numbers, sift}
 use Rattle.verifier.specs.declared.roster.Roster.{Roster}
 use Rattle.verifier.specs.declared.sensor.State.{State}
 use Rattle.verifier.specs.declared.sensor.State.TheVariants.{Fence, On, Off}
-use Rattle.verifier.specs.Rosters.{meaning_of, is_sensor, chosen, state_in}
+use Rattle.verifier.specs.Rosters.{meaning_of, is_sensor, candidates, state_in}
 use Rattle.verifier.specs.Sensors.{state_at, is_fence_of, is_on}
 
--- what a state says of the choice
-abbrev pub counts : Bool → Option State → Bool
-counts fence None = false
-counts fence (Some Fence) = fence
-counts fence (Some On) = true
-counts fence (Some Off) = false
+-- what a state says: on, and on but not on the fence
+abbrev pub says_on : Option State → Bool
+says_on None = false
+says_on (Some Fence) = true
+says_on (Some On) = true
+says_on (Some Off) = false
 
-counts_is : (t fence : Bool) (st : State) (m : Bool) → is_fence_of st ≡ m
-    → counts fence (cond t (Some (cond m Fence (cond (t && is_on st) On Off))) None) ≡ ((t && is_on st) && (fence || not m))
-counts_is false fence st m e = refl
-counts_is true true Fence m e = ap (λ m. counts true (Some (cond m Fence On))) (sym e)
-counts_is true false Fence m e = subst (λ m. counts false (Some (cond m Fence On)) ≡ not m) e refl
-counts_is true true On m e = subst (λ m. counts true (Some (cond m Fence On)) ≡ true) e refl
-counts_is true false On m e = subst (λ m. counts false (Some (cond m Fence On)) ≡ not m) e refl
-counts_is true fence Off m e = subst (λ m. counts fence (Some (cond m Fence Off)) ≡ false) e refl
+abbrev pub says_candidate : Option State → Bool
+says_candidate None = false
+says_candidate (Some Fence) = false
+says_candidate (Some On) = true
+says_candidate (Some Off) = false
+
+-- of a sensor that is one or not, by its record and by whether it is a member of the fence
+abbrev told : Bool → State → Bool → Option State
+told t st m = cond t (Some (cond m Fence (cond (t && is_on st) On Off))) None
+
+told_on : (t : Bool) (st : State) (m : Bool) → is_fence_of st ≡ m → says_on (told t st m) ≡ (t && is_on st)
+told_on false st m e = refl
+told_on true Fence m e = subst (λ m. says_on (Some (cond m Fence On)) ≡ true) e refl
+told_on true On m e = subst (λ m. says_on (Some (cond m Fence On)) ≡ true) e refl
+told_on true Off m e = subst (λ m. says_on (Some (cond m Fence Off)) ≡ false) e refl
+
+told_candidate : (t : Bool) (st : State) (m : Bool) → is_fence_of st ≡ m → says_candidate (told t st m) ≡ ((t && is_on st) && not m)
+told_candidate false st m e = refl
+told_candidate true Fence m e = subst (λ m. says_candidate (Some (cond m Fence On)) ≡ not m) e refl
+told_candidate true On m e = subst (λ m. says_candidate (Some (cond m Fence On)) ≡ not m) e refl
+told_candidate true Off m e = subst (λ m. says_candidate (Some (cond m Fence Off)) ≡ false) e refl
 
 -- by what the roster says of a sensor
-pub chosen_is : (r : Roster) (x : ℕ) (fence : Bool) (o : Option State) → o ≡ state_in (meaning_of r) x → counts fence o ≡ chosen (meaning_of r) fence x
-chosen_is r x fence o e = ap (counts fence) e ∙ counts_is (is_sensor (meaning_of r).survey x) fence (state_at r.sensors x) _ (r.fenced x)
+module _ (r : Roster) (x : ℕ) (o : Option State) (e : o ≡ state_in (meaning_of r) x) where
+  pub on_is : says_on o ≡ (meaning_of r).on x
+  on_is = ap says_on e ∙ told_on (is_sensor (meaning_of r).survey x) (state_at r.sensors x) _ (r.fenced x)
+
+  pub candidate_is : says_candidate o ≡ candidates (meaning_of r) x
+  candidate_is = ap says_candidate e ∙ told_candidate (is_sensor (meaning_of r).survey x) (state_at r.sensors x) _ (r.fenced x)
 
 never : (b : Bool) → (b && false) ≡ false
 never true = refl
@@ -93,5 +110,9 @@ gathered_all s f few outside set h = fun_ext (λ y.
         ap (λ b. up_to 64 y && (member y (numbers 1 s.count) && b)) none ∙ ap (λ b. up_to 64 y && b) (never (member y (numbers 1 s.count))) ∙ never (up_to 64 y) ∙ sym none
 
 -- of a roster
-pub chosen_outside : (r : Roster) (fence : Bool) (x : ℕ) → is_sensor (meaning_of r).survey x ≡ false → chosen (meaning_of r) fence x ≡ false
-chosen_outside r fence x o = ap (λ b. (b && is_on (state_at r.sensors x)) && (fence || not (member x (meaning_of r).survey.fence))) o
+module _ (r : Roster) (x : ℕ) (o : is_sensor (meaning_of r).survey x ≡ false) where
+  pub on_outside : (meaning_of r).on x ≡ false
+  on_outside = ap (λ b. b && is_on (state_at r.sensors x)) o
+
+  pub candidates_outside : candidates (meaning_of r) x ≡ false
+  candidates_outside = ap (λ b. b && not (member x (meaning_of r).survey.fence)) on_outside

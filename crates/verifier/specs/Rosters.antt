@@ -1,5 +1,5 @@
 -- What a roster means: its survey, and the sensors that are on.
-use Rattle.std.specs.Prelude.{◌≡◌, ℕ, Bool, true, false, cond, not, ◌&&◌, ◌||◌, List, Some, None, Option, ◌==◌, nat_le}
+use Rattle.std.specs.Prelude.{◌≡◌, ℕ, Bool, true, false, cond, not, ◌&&◌, List, Some, None, Option, ◌==◌, nat_le}
 use Rattle.refusal.specs.Outcomes.{Outcome, accepted, refused}
 use Rattle.survey.specs.Lists.{member}
 use Rattle.survey.specs.Plans.{survey_of}
@@ -39,13 +39,9 @@ read_after (refused k) old = old
 abbrev pub state_in : Meaning → ℕ → Option State
 state_in m x = cond (is_sensor m.survey x) (Some (cond (member x m.survey.fence) Fence (cond (m.on x) On Off))) None
 
--- the sensors on, with those of the fence or without them
-abbrev pub chosen : Meaning → Bool → Sensors
-chosen m fence x = m.on x && (fence || not (member x m.survey.fence))
-
 -- those that thinning may drop: on, and not on the fence
 abbrev pub candidates : Meaning → Sensors
-candidates m = chosen m false
+candidates m x = m.on x && not (member x m.survey.fence)
 
 -- may x be switched?
 abbrev pub Switchable : Meaning → ℕ → Type 0

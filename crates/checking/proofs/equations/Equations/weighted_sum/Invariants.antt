@@ -2,8 +2,8 @@
 use Rattle.std.proofs.Common.{◌≡◌}
 use Rattle.homology.specs.Certificate.{vector}
 use Rattle.checking.specs.Equations.{along, weighted}
-use Rattle.checking.proofs.equations.weighted_sum.Given as goal
+use Rattle.checking.proofs.equations.Equations.weighted_sum.Given as goal
 
 abbrev pub invariant-loop-i : goal.invariant-loop-i
 invariant-loop-i g l =
-    l.sum ≡ weighted (g.F.Field.arithmetic l.field) l.i (vector l.codes) (along (g.G.Grid.holds l.grid).at l.line)
+    l.sum ≡ weighted (g.F.Field.arithmetic l.self.field.now) l.i (vector l.codes) (along (g.G.Grid.holds l.self.grid.now).at l.line)
