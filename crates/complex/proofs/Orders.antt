@@ -1,5 +1,5 @@
 -- Lists that ascend: each element is below each later one, and what a search by halves and a test of neighbours say of them.
-use Rattle.std.proofs.Common.{◌≡◌, ℕ, zero, suc, ◌+◌, ◌<◌, Bool, true, false, List, [], ◌∷◌, length, get_or, Ordering, Less, Equal, Greater, Ok, Err, Result, Option, sym, refl, ap, ◌∙◌, subst, ⊎_elim, true≢false, add-one, arith}
+use Rattle.std.proofs.Common.{◌≡◌, ℕ, zero, suc, ◌+◌, ◌<◌, Bool, true, false, List, [], ◌∷◌, length, get_or, Ordering, Equal, Ok, Err, Result, Option, sym, refl, ap, ◌∙◌, subst, ⊎_elim, true≢false, add-one, arith}
 use Rattle.std.specs.Cmp.{IsTotalOrder}
 use Rattle.std.specs.List.{AllByRecursion, AllPairs, IsAllAdjacentAnswer}
 use Rattle.std.specs.List.Sorted.{IsBinarySearchResult, IsSearchInRange, IsSortedBy}
@@ -9,12 +9,10 @@ use Rattle.std.proofs.ByRecursion.{All-get_or, All-weaker}
 use Rattle.std.proofs.lemmas.Bool.{and_parts, and_from, cases_lt}
 use Rattle.std.proofs.lemmas.Cmp.{tied_itself}
 use Rattle.std.proofs.lemmas.List.Sorted.{searchable_from_sorted}
+use Rattle.complex.specs.OrderLaws.{less_is, less_chained}
 use Rattle.complex.specs.Orders.{ascends, ascends_from, Stands, Found}
 
 module _ {R : Type 0} (less : R → R → Bool) where
-  abbrev pub Apart : Type 0
-  Apart = (x : R) → less x x ≡ false
-
   abbrev pub Chained : Type 0
   Chained = (x y z : R) → less x y ≡ true → less y z ≡ true → less x z ≡ true
 
@@ -72,23 +70,9 @@ module _ {R : Type 0} (less : R → R → Bool) where
 
 -- an order that says which of two is less
 module _ {R : Type 0} (cmp : R → R → Ordering) (total : IsTotalOrder cmp) (less : R → R → Bool) (decides : (x y : R) → is_lt (cmp x y) ≡ less x y) where
-  less_is : (x y : R) → less x y ≡ true → cmp x y ≡ Less
-  less_is x y h = go (cmp x y) (decides x y ∙ h)
-    where
-      go : (o : Ordering) → is_lt o ≡ true → o ≡ Less
-      go Less e = refl
-      go Equal e = absurd (true≢false (sym e))
-      go Greater e = absurd (true≢false (sym e))
-
-  pub less_apart : Apart less
-  less_apart x = sym (decides x x) ∙ ap is_lt (tied_itself total x)
-
-  pub less_chained : Chained less
-  less_chained x y z p q = sym (decides x z) ∙ ap is_lt (total.trans x y z (less_is x y p) (less_is y z q))
-
   sorted_by : (xs : List R) → ascends less xs ≡ true → IsSortedBy (λ x y. is_lt (cmp x y)) xs
   sorted_by xs up k d _ l =
-      let below = less_is (get_or xs k d) (get_or xs (k + 1) d) (ascends_far less less_chained xs up k (k + 1) d (omega arith) l) in
+      let below = less_is cmp total less decides (get_or xs k d) (get_or xs (k + 1) d) (ascends_far less (less_chained cmp total less decides) xs up k (k + 1) d (omega arith) l) in
       ap is_lt (total.antisymm (get_or xs (k + 1) d) (get_or xs k d) ∙ ap ordering_reverse below)
 
   -- what a search by halves finds, where records that tie are the same

@@ -1,5 +1,5 @@
 // The starting matrix as a grid that holds no entries: it reads them off lists.
-ghost use Rattle.std.specs.Prelude.{◌≡◌, ◌≤◌, true, ◌&&◌, [], length, if◌then◌else◌, nat_le};
+ghost use Rattle.std.specs.Prelude.{◌≡◌, ◌≤◌, true, ◌&&◌, length, nat_le};
 ghost use Rattle.complex.specs.Orders.{ascends, edge_less};
 
 mod columns;
@@ -8,8 +8,9 @@ use crate::boundary::{boundary_code, fence_code};
 use crate::order::is_ascending;
 use matrix::grid::Grid;
 use survey::edge::{Edge, Triangle};
+use survey::limits::{MAX_LINKS, MAX_TRIANGLES};
 
-// The edges ascend, and there are no more than a survey can have. `minus` is the field's code for -1.
+// The edges ascend, and there are no more edges and no more triangles than a survey can have. `minus` is the field's code for -1.
 #[derive(Drop)]
 pub struct BoundaryGrid<'e, 't, 'f> {
     edges: &'e [Edge],
@@ -25,14 +26,7 @@ pub struct BoundaryGrid<'e, 't, 'f> {
 fn are_edges(list: &[Edge]) -> bool
     ensures { result ≡ (nat_le (length list.now) 512 && ascends edge_less list.now) }
 {
-    list.len() <= 512 && is_ascending(list)
-}
-
-// The list if it can be used, else none of it.
-fn usable<R>(list: &[R], can_use: bool) -> &[R]
-    ensures { result.now ≡ (if can_use then list.now else []) }
-{
-    if can_use { list } else { &[] }
+    list.len() <= MAX_LINKS as usize && is_ascending(list)
 }
 
 impl<'e, 't, 'f> BoundaryGrid<'e, 't, 'f> {
@@ -50,8 +44,12 @@ impl<'e, 't, 'f> BoundaryGrid<'e, 't, 'f> {
         ensures holds { matrix_of result ≡ starting_matrix (listed_system minus (usable_edges_of edges.now) (usable_triangles_of triangles.now) fence.now) }
         ensures survey { OfSurveys edges.now triangles.now fence.now minus (matrix_of result) }
     {
-        let edges = usable(edges, are_edges(edges));
-        let triangles = usable(triangles, triangles.len() <= 1024);
+        let edges = if are_edges(edges) { edges } else { &[] };
+        let triangles = if triangles.len() <= MAX_TRIANGLES as usize {
+            triangles
+        } else {
+            &[]
+        };
         BoundaryGrid {
             edges,
             triangles,

@@ -5,14 +5,14 @@ ghost use Rattle.std.specs.Fmt.{decimal};
 use std::fmt;
 
 // A pair of sensors.
-#[derive(Clone, Copy, Debug, PartialEq, Eq, PartialOrd, Ord)]
+#[derive(Clone, Copy, Debug, Default, PartialEq, Eq, PartialOrd, Ord)]
 pub struct Edge {
     pub a: u16,
     pub b: u16,
 }
 
 // Three sensors.
-#[derive(Clone, Copy, Debug, PartialEq, Eq, PartialOrd, Ord)]
+#[derive(Clone, Copy, Debug, Default, PartialEq, Eq, PartialOrd, Ord)]
 pub struct Triangle {
     pub a: u16,
     pub b: u16,

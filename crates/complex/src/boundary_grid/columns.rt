@@ -27,9 +27,7 @@ impl<'e, 't, 'f> BoundaryGrid<'e, 't, 'f> {
         if passed >= self.edges.len() || edge < self.edges[passed] {
             return None;
         }
-        let Some(place) = find(&self.edges[passed..], &edge) else {
-            return None;
-        };
+        let place = find(&self.edges[passed..], &edge)?;
         Some((passed + place) as u32 + 1)
     }
 

@@ -2,7 +2,8 @@
 use Rattle.std.proofs.Common.{rules, ◌≡◌, ap, ◌∙◌}
 use Rattle.std.specs.Ordering.{is_lt, is_some_and}
 use Rattle.std.proofs.lemmas.List.Sorted.{answers_always}
-use Rattle.complex.proofs.Orders.{less_chained, adjacent_ascends}
+use Rattle.complex.specs.OrderLaws.{less_chained}
+use Rattle.complex.proofs.Orders.{adjacent_ascends}
 use Rattle.complex.proofs.order.is_ascending.Goals as goal
 
 pub returns : goal.returns

@@ -17,8 +17,9 @@ returns-then-passed-self c i l k s =
           (sym (edge_below c.args.edge _) ∙ sym w.lt.ensures ∙ w.if-lt.true) (i - 1) (omega arith) s
     ]
 
-pub returns-in_default : goal.returns-in_default
-returns-in_default c = row_none c.args.self.now.edges.now c.args.self.now.rising c.args.first _ c.args.edge c.saturating_sub-passed.ensures c.in_default.ensures
+pub returns-in_err-place : goal.returns-in_err-place
+returns-in_err-place c =
+    rw c.from_residual.ensures (row_none c.args.self.now.edges.now c.args.self.now.rising c.args.first _ c.args.edge c.saturating_sub-passed.ensures c.in_err-place.ensures)
 
 pub returns : goal.returns
-returns c = row_found c.args.self.now.edges.now c.args.first _ _ c.args.edge c.saturating_sub-passed.ensures c.in-Some.ensures
+returns c = row_found c.args.self.now.edges.now c.args.first _ _ c.args.edge c.saturating_sub-passed.ensures c.in_ok-place.ensures
