@@ -55,22 +55,22 @@ impl<'a> Grid for Sparse<'a> {
     }
 
     fn entry(&self, row: u32, column: u32) -> u16 {
-        match self.spot(row, column, 0) {
+        match self.spot(row, column) {
             Some(spot) => self.code(spot),
             None => 0,
         }
     }
 
-    // One walk, to the first cell that is not above the row.
+    // One walk, to the first cell that is not before the row.
     fn next_nonzero(&self, column: u32, first: u32) -> Option<u32> {
-        let spot = self.spot(first.max(1), column, 0)?;
+        let spot = self.spot(first.max(1), column)?;
         let cell = self.cell(spot.at)?;
         Some(cell.row as u32)
     }
 
-    // One walk, to the last cell that is not below the row.
+    // One walk, to the last cell that is not after the row.
     fn last_nonzero(&self, column: u32, last: u32) -> Option<u32> {
-        let spot = self.spot(last.min(self.rows) + 1, column, 0)?;
+        let spot = self.spot(last.min(self.rows) + 1, column)?;
         let cell = self.cell(spot.before)?;
         Some(cell.row as u32)
     }
@@ -95,7 +95,7 @@ impl<'a> Store for Sparse<'a> {
     }
 
     fn put(&mut self, row: u32, column: u32, code: u16) -> Result<(), Refusal> {
-        match self.spot(row, column, 0) {
+        match self.spot(row, column) {
             Some(spot) if row <= self.rows => self.set(spot, code),
             _ => Err(Refusal::OutsideShape),
         }
@@ -117,14 +117,14 @@ impl<'a> Store for Sparse<'a> {
         to: u32,
         factor: u16,
     ) -> Result<(), Refusal> {
-        let Some(first) = self.spot(1, from, 0) else {
+        let Some(first) = self.spot(1, from) else {
             return Ok(());
         };
         let mut link = first.at;
         let mut before = 0;
         while let Some(cell) = self.cell(link) {
             let row = cell.row as u32;
-            let Some(spot) = self.spot(row, to, before) else {
+            let Some(spot) = self.spot_after(row, to, before) else {
                 return Err(Refusal::OutsideShape);
             };
             let sum = field.sum(self.code(spot), field.product(factor, cell.code));
