@@ -9,30 +9,32 @@ use crate::cell::Cell;
 use crate::chains::{Spare, clear};
 use field::Field;
 use matrix::grid::Grid;
+use matrix::layout::Shape;
 use matrix::store::Store;
 use refusal::Refusal;
 
 #[derive(Drop)]
 pub struct Sparse<'a> {
-    pub(crate) rows: u32,
-    pub(crate) columns: u32,
+    pub(crate) shape: Shape,
     pub(crate) used: u16,
     pub(crate) spare: Spare,
     pub(crate) cells: &'a mut [Cell],
     pub(crate) heads: &'a mut [u16],
-    ghost sound: { Sound rows columns used spare.free spare.fresh heads.now cells.now },
+    ghost sound: { Sound shape.rows shape.columns used spare.free spare.fresh heads.now cells.now },
 }
 
 impl<'a> Sparse<'a> {
     // A store of shape 0 by 0, whatever the cells and the heads hold.
     pub fn new(cells: &'a mut [Cell], heads: &'a mut [u16]) -> Sparse<'a>
-        ensures holds { held result.rows result.columns result.cells.now ≡ blank 0 0 }
+        ensures holds { held result.shape.rows result.shape.columns result.cells.now ≡ blank 0 0 }
         ensures terms { sparse_terms (length result.cells.now) (length result.heads.now) ≡ sparse_terms (length cells.old) (length heads.old) }
     {
         cells.fill(Cell::default());
         Sparse {
-            rows: 0,
-            columns: 0,
+            shape: Shape {
+                rows: 0,
+                columns: 0,
+            },
             used: 0,
             spare: Spare::default(),
             cells,
@@ -42,16 +44,16 @@ impl<'a> Sparse<'a> {
 }
 
 impl<'a> Grid for Sparse<'a> {
-    ghost holds = { λ s. held s.rows s.columns s.cells.now };
+    ghost holds = { λ s. held s.shape.rows s.shape.columns s.cells.now };
 
-    ghost outside = { λ s. held_outside s.rows s.columns s.cells.now };
+    ghost outside = { λ s. held_outside s.shape.rows s.shape.columns s.cells.now };
 
     fn rows(&self) -> u32 {
-        self.rows
+        self.shape.rows
     }
 
     fn columns(&self) -> u32 {
-        self.columns
+        self.shape.columns
     }
 
     fn entry(&self, row: u32, column: u32) -> u16 {
@@ -70,7 +72,7 @@ impl<'a> Grid for Sparse<'a> {
 
     // One walk, to the last cell that is not after the row.
     fn last_nonzero(&self, column: u32, last: u32) -> Option<u32> {
-        let spot = self.spot(last.min(self.rows) + 1, column)?;
+        let spot = self.spot(last.min(self.shape.rows) + 1, column)?;
         let cell = self.cell(spot.before)?;
         Some(cell.row as u32)
     }
@@ -87,8 +89,7 @@ impl<'a> Store for Sparse<'a> {
         }
         let fresh = self.spare.fresh as usize;
         clear(self.cells, fresh, self.heads, columns as usize);
-        self.rows = rows;
-        self.columns = columns;
+        self.shape = Shape { rows, columns };
         self.used = 0;
         self.spare = Spare::default();
         Ok(())
@@ -96,7 +97,7 @@ impl<'a> Store for Sparse<'a> {
 
     fn put(&mut self, row: u32, column: u32, code: u16) -> Result<(), Refusal> {
         match self.spot(row, column) {
-            Some(spot) if row <= self.rows => self.set(spot, code),
+            Some(spot) if row <= self.shape.rows => self.set(spot, code),
             _ => Err(Refusal::OutsideShape),
         }
     }

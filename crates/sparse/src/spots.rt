@@ -22,7 +22,7 @@ impl<'a> Sparse<'a> {
         requires below { (row ≢ 0) → row_of (cells_of self.now) from < row }
         ensures { Sought self.now row column result }
     {
-        if row == 0 || column == 0 || column > self.columns {
+        if row == 0 || column == 0 || column > self.shape.columns {
             return None;
         }
         Some(seek(self.cells, self.heads, row, column, from))
