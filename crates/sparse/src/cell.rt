@@ -9,3 +9,12 @@ pub struct Cell {
     pub(crate) code: u16,
     pub(crate) next: u16,
 }
+
+// The last row that a cell can name.
+pub(crate) const MAX_ROWS: u32 = u16::MAX as u32;
+
+// The most cells that links can tell apart.
+pub(crate) const MAX_CELLS: usize = u16::MAX as usize;
+
+// Every code of 16 bits is below it.
+pub(crate) const CODE_BOUND: u32 = 65536;

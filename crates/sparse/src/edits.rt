@@ -4,7 +4,7 @@ ghost use Rattle.matrix.specs.Matrix.{put_at};
 ghost use Rattle.matrix.specs.Terms.{told, put_outcome, put_after};
 ghost use Rattle.sparse.specs.States.{cells_of, entry_at, matrix_of, terms_of, Taken, Inside, Stays, Left};
 
-use crate::cell::Cell;
+use crate::cell::{Cell, MAX_CELLS};
 use crate::chains::{Spare, Spot, edit, recode};
 use crate::sparse::Sparse;
 use refusal::Refusal;
@@ -90,7 +90,9 @@ impl<'a> Sparse<'a> {
     {
         match (self.code(spot), code) {
             (0, 0) => Ok(()),
-            (0, _) if self.used as usize >= self.cells.len().min(65535) => Err(Refusal::StoreFull),
+            (0, _) if self.used as usize >= self.cells.len().min(MAX_CELLS) => Err(
+                Refusal::StoreFull,
+            ),
             (0, _) => {
                 self.insert(spot, code);
                 Ok(())

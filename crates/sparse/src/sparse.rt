@@ -5,7 +5,7 @@ ghost use Rattle.matrix.specs.Terms.{itself};
 ghost use Rattle.sparse.specs.Cells.{held, held_outside, sparse_terms};
 ghost use Rattle.sparse.specs.Sound.{Sound};
 
-use crate::cell::Cell;
+use crate::cell::{CODE_BOUND, Cell, MAX_ROWS};
 use crate::chains::{Spare, clear};
 use field::Field;
 use matrix::grid::Grid;
@@ -84,7 +84,7 @@ impl<'a> Store for Sparse<'a> {
     ghost backing = { λ s. itself };
 
     fn begin(&mut self, rows: u32, columns: u32) -> Result<(), Refusal> {
-        if rows > 65535 || columns as usize > self.heads.len() {
+        if rows > MAX_ROWS || columns as usize > self.heads.len() {
             return Err(Refusal::ShapeNotTaken);
         }
         let fresh = self.spare.fresh as usize;
@@ -107,7 +107,7 @@ impl<'a> Store for Sparse<'a> {
     }
 
     fn code_bound(&self) -> u32 {
-        65536
+        CODE_BOUND
     }
 
     // One walk along both chains: the rows of `from` rise, so that each search in `to` goes on where the last one ended.
