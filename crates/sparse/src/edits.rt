@@ -10,6 +10,13 @@ use crate::sparse::Sparse;
 use refusal::Refusal;
 
 impl<'a> Sparse<'a> {
+    // The most cells that can be in use.
+    fn limit(&self) -> usize
+        ensures { result ≡ min (length (cells_of self.now)) 65535 }
+    {
+        self.cells.len().min(MAX_CELLS)
+    }
+
     // The link to a cell that is not in use, and the cells that are spare when that one is taken.
     fn idle(&self) -> (u16, Spare)
         requires { self.now.used < min (length (cells_of self.now)) 65535 }
@@ -90,9 +97,7 @@ impl<'a> Sparse<'a> {
     {
         match (self.code(spot), code) {
             (0, 0) => Ok(()),
-            (0, _) if self.used as usize >= self.cells.len().min(MAX_CELLS) => Err(
-                Refusal::StoreFull,
-            ),
+            (0, _) if self.used as usize >= self.limit() => Err(Refusal::StoreFull),
             (0, _) => {
                 self.insert(spot, code);
                 Ok(())
