@@ -50,8 +50,8 @@ module _ (cells cells' : List Cell) (c d r b : ℕ) (k : Kept cells cells' r d) 
       (cases_eq b 0)
 
 -- a put outside the shape
-outcome_outside : (t : Terms) (s : Sparse) (r c v : ℕ) → (1 ≤ c → s.columns < c) → put_outcome t (matrix_of s) (put_at r c v) ≡ refused (number_of OutsideShape)
-outcome_outside t s r c v h = cond-false (inside s.rows s.columns r c) _ _ (grind (arith, nat_tests))
+outcome_outside : (t : Terms) (s : Sparse) (r c v : ℕ) → (1 ≤ c → s.shape.columns < c) → put_outcome t (matrix_of s) (put_at r c v) ≡ refused (number_of OutsideShape)
+outcome_outside t s r c v h = cond-false (inside s.shape.rows s.shape.columns r c) _ _ (grind (arith, nat_tests))
 
 -- the rows that a walk from the link can still come to
 abbrev pub rows_left : List Cell → ℕ → ℕ
@@ -67,20 +67,20 @@ left_less cells cells' c link r next d e l f =
 
 module _ (F : Arithmetic) (k from to : ℕ) where
   -- a column outside the shape has no entry
-  pub merge_nothing : (s : Sparse) → (1 ≤ 1 → 1 ≤ from → s.columns < from) → Comes (terms_of s) (matrix_of s) (adding F k from to (matrix_of s).at (matrix_of s).rows) (Ok tt) (matrix_of s)
-  merge_nothing s h = adding_end F k from to _ _ (matrix_of s) 0 (adding_start F k from to _ _) (λ i _. held_past s.rows s.columns (cells_of s) i from (h (omega arith)))
+  pub merge_nothing : (s : Sparse) → (1 ≤ 1 → 1 ≤ from → s.shape.columns < from) → Comes (terms_of s) (matrix_of s) (adding F k from to (matrix_of s).at (matrix_of s).rows) (Ok tt) (matrix_of s)
+  merge_nothing s h = adding_end F k from to _ _ (matrix_of s) 0 (adding_start F k from to _ _) (λ i _. held_past s.shape.rows s.shape.columns (cells_of s) i from (h (omega arith)))
 
   -- The rows up to r are done: `link` leads on in the one column, and `before` is no later in the other.
   pub record Merging (t : Terms) (m : Matrix) (s : Sparse) (link before r : ℕ) : Type 0 where
     pub done : Adding F k from to t m (matrix_of s) r
     pub column_from : 1 ≤ from
-    pub column_to : from ≤ s.columns
+    pub column_to : from ≤ s.shape.columns
     pub follows : Follows (cells_of s) from r link
     pub stands : Stands (cells_of s) to before
     pub below : row_of (cells_of s) before ≤ r
     pub same_terms : terms_of s ≡ t
-    pub same_rows : s.rows ≡ m.rows
-    pub same_columns : s.columns ≡ m.columns
+    pub same_rows : s.shape.rows ≡ m.rows
+    pub same_columns : s.shape.columns ≡ m.columns
 
   pub merge_start : (s : Sparse) (p : Spot) → (p.row ≡ 1) × (p.column ≡ from) × Located s p → Merging (terms_of s) (matrix_of s) s p.at 0 0
   merge_start s p h =
@@ -101,7 +101,7 @@ module _ (F : Arithmetic) (k from to : ℕ) where
   module _ {t : Terms} {m : Matrix} {s : Sparse} {link before r : ℕ} (g : Merging t m s link before r) where
     -- a row past r that the link does not lead to has no entry
     none_between : (i : ℕ) → r < i → (link ≢ 0 → i < row_at (cells_of s) (link - 1)) → (matrix_of s).at i from ≡ 0
-    none_between i l h = held_none s.rows s.columns (cells_of s) i from (λ _ _. found_none (cells_of s) i from (λ q e f.
+    none_between i l h = held_none s.shape.rows s.shape.columns (cells_of s) i from (λ _ _. found_none (cells_of s) i from (λ q e f.
         let n = g.follows.1 q f (omega arith) in omega (arith, n.1, h n.0)))
 
     -- no row is left
@@ -116,7 +116,7 @@ module _ (F : Arithmetic) (k from to : ℕ) where
       pub row_past : r < x.row
       row_past = omega (arith, (g.follows.0 some.0).1, row_is)
 
-      pub row_within : x.row ≤ s.rows
+      pub row_within : x.row ≤ s.shape.rows
       row_within = omega (arith, s.sound.rows_to (link - 1), row_is)
 
       entry_from : x.code ≡ (matrix_of s).at x.row from
@@ -124,7 +124,7 @@ module _ (F : Arithmetic) (k from to : ℕ) where
           let used : 1 ≤ row_at (cells_of s) (link - 1) = omega (arith, row_is, row_past) in
           ap (λ (u : Cell). u.code) some.1 ∙ sym (found_here (cells_of s) (link - 1) s.sound.chained.one_each used)
           ∙ ap (λ i. found (cells_of s) i (column_at (cells_of s) (link - 1))) row_is ∙ ap (found (cells_of s) x.row) (g.follows.0 some.0).0
-          ∙ sym (held_in s.rows s.columns (cells_of s) x.row from (omega (arith, row_past)) row_within g.column_from g.column_to)
+          ∙ sym (held_in s.shape.rows s.shape.columns (cells_of s) x.row from (omega (arith, row_past)) row_within g.column_from g.column_to)
 
       code_not_zero : x.code ≢ 0
       code_not_zero z = omega (arith, s.sound.filled (link - 1) (omega (arith, row_is, row_past)), ap (λ (u : Cell). u.code) some.1)
@@ -139,7 +139,7 @@ module _ (F : Arithmetic) (k from to : ℕ) where
       }
 
       -- outside the shape the put of the row is refused, whatever it brings
-      pub merge_outside : (1 ≤ x.row → 1 ≤ to → s.columns < to) → Comes t m (adding F k from to m.at m.rows) (Err OutsideShape) (matrix_of s)
+      pub merge_outside : (1 ≤ x.row → 1 ≤ to → s.shape.columns < to) → Comes t m (adding F k from to m.at m.rows) (Err OutsideShape) (matrix_of s)
       merge_outside h =
           let y = (matrix_of s).at x.row to in
           let w = F.product k x.code in
@@ -176,7 +176,7 @@ module _ (F : Arithmetic) (k from to : ℕ) where
           -- the link that is next leads on past the row, whatever was put there
           next_link : Follows (cells_of s') from x.row x.next
           next_link = follows_kept (cells_of s) (cells_of s') from to x.row x.next kept_row
-              (follows_by (cells_of s) _ _ _ _ _ _ (g.follows.0 some.0).0 row_is (sym (ap (λ (z : Cell). z.next) some.1)) (next_follows s.columns (heads_of s) (cells_of s) (link - 1) s.sound.chained (omega (arith, row_is, row_past))))
+              (follows_by (cells_of s) _ _ _ _ _ _ (g.follows.0 some.0).0 row_is (sym (ap (λ (z : Cell). z.next) some.1)) (next_follows s.shape.columns (heads_of s) (cells_of s) (link - 1) s.sound.chained (omega (arith, row_is, row_past))))
 
           pub merge_less : rows_left (cells_of s') x.next < rows_left (cells_of s) link
           merge_less = left_less (cells_of s) (cells_of s') from link x.row x.next some.0 row_is (omega (arith, s.sound.low, row_within)) next_link

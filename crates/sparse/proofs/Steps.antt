@@ -1,5 +1,5 @@
 -- The three ways of a put, as the code goes them.
-use Rattle.std.proofs.Common.{◌≡◌, ◌≢◌, ℕ, ◌+◌, ◌-◌, ◌<◌, ◌≤◌, min, cond, ◌&&◌, ◌==◌, List, length, set, refl, ap, ⊎_elim, arith}
+use Rattle.std.proofs.Common.{◌≡◌, ◌≢◌, ℕ, ◌+◌, ◌-◌, ◌<◌, ◌≤◌, min, cond, ◌&&◌, ◌==◌, List, length, set, refl, ap, ◌∙◌, ⊎_elim, arith}
 use Rattle.std.proofs.lemmas.Bool.{cases_eq}
 use Rattle.std.proofs.lemmas.Bool.Decides.{nat_tests}
 use Rattle.matrix.specs.Matrix.{Matrix, put_at, put_into}
@@ -32,7 +32,7 @@ put_same t m r c v e = left_same (put_outcome t m (put_at r c v)) m _
     (same_entries m m.at (put_into m (put_at r c v)).at (λ i j. same_ways i j r c v (m.at i j) (λ f g. rw (f, g) e)))
 
 -- the place of a spot
-pub place : {s : Sparse} {p : Spot} → Inside s p → Place s.rows s.columns p.row p.column
+pub place : {s : Sparse} {p : Spot} → Inside s p → Place s.shape.rows s.shape.columns p.row p.column
 place i = record { row_from = i.located.row_from; row_to = i.row_to; column_from = i.located.column_from; column_to = i.located.column_to }
 
 -- the cell that is picked is there
@@ -51,7 +51,7 @@ module _ (s : Sparse) {p : Spot} (i : Inside s p) where
 
   pub insert_left : {heads' : List ℕ} {cells' : List Cell} {v l : ℕ} {left : Spare} → entry_at s p ≡ 0 → v ≢ 0 → s.used < min (length (cells_of s)) 65535 → Taken (cells_of s) s.spare l left
       → cells' ≡ linked_cells (set (cells_of s) (l - 1) (record { column = p.column; row = p.row; code = v; next = p.at })) p.before l → heads' ≡ linked_heads (heads_of s) p.column p.before l
-      → Put s.rows s.columns (s.used + 1) left.free left.fresh (heads_of s) heads' (cells_of s) cells' p.row p.column v
+      → Put s.shape.rows s.shape.columns (s.used + 1) left.free left.fresh (heads_of s) heads' (cells_of s) cells' p.row p.column v
   insert_left {heads'} {cells'} {v} {l} {left} zero some room taken ec eh =
       let t = i.located.spotted in
       let k = taking s.sound room l left.free left.fresh taken.link_is taken.free_is taken.fresh_is in
@@ -69,23 +69,25 @@ module _ (s : Sparse) {p : Spot} (i : Inside s p) where
         (λ (n : row_at (cells_of s) (p.at - 1) ≢ p.row). absurd (there (entry_none s p i.located (λ _. n))))
         (cases_eq (row_at (cells_of s) (p.at - 1)) p.row)
 
-    pub at_from : 1 ≤ p.at
-    at_from = omega (arith, at_some)
-
-    pub at_lt : p.at - 1 < length (cells_of s)
+    at_lt : p.at - 1 < length (cells_of s)
     at_lt = used_lt (cells_of s) (p.at - 1) (omega (arith, hit, i.located.row_from))
 
-    pub remove_left : {heads' : List ℕ} {cells' : List Cell} (x : Cell) → x.row ≡ 0 → x.next ≡ s.spare.free
-        → cells' ≡ linked_cells (set (cells_of s) (p.at - 1) x) p.before (next_at (cells_of s) (p.at - 1)) → heads' ≡ linked_heads (heads_of s) p.column p.before (next_at (cells_of s) (p.at - 1))
-        → Put s.rows s.columns (s.used - 1) p.at s.spare.fresh (heads_of s) heads' (cells_of s) cells' p.row p.column 0
-    remove_left {heads'} {cells'} x gone xn ec eh =
+    pub at_range : (1 ≤ p.at) × (p.at ≤ length (cells_of s))
+    at_range = (omega (arith, at_some), omega (arith, at_lt))
+
+    pub remove_left : {heads' : List ℕ} {cells' : List Cell} {to : ℕ} (x : Cell) → x.row ≡ 0 → x.next ≡ s.spare.free → to ≡ next_at (cells_of s) (p.at - 1)
+        → cells' ≡ linked_cells (set (cells_of s) (p.at - 1) x) p.before to → heads' ≡ linked_heads (heads_of s) p.column p.before to
+        → Put s.shape.rows s.shape.columns (s.used - 1) p.at s.spare.fresh (heads_of s) heads' (cells_of s) cells' p.row p.column 0
+    remove_left {heads'} {cells'} x gone xn en ec eh =
         let t = i.located.spotted in
         let apart : p.before ≢ 0 → (p.before - 1 < length (cells_of s)) × (p.before - 1 ≢ p.at - 1) = λ d. (used_lt (cells_of s) (p.before - 1) (t.stands d).1, λ e. omega (arith, t.below, row_of_some (cells_of s) p.before d, ap (row_at (cells_of s)) e, hit)) in
         put_removed s.sound (place i) t at_some hit x gone xn
-        (edited (heads_of s) heads' (cells_of s) cells' p.column p.before p.at _ x i.located.column_from in_heads at_lt apart ec eh)
+        (edited (heads_of s) heads' (cells_of s) cells' p.column p.before p.at _ x i.located.column_from in_heads at_lt apart
+        (ec ∙ ap (linked_cells (set (cells_of s) (p.at - 1) x) p.before) en) (eh ∙ ap (linked_heads (heads_of s) p.column p.before) en))
 
     pub remove_from : 1 ≤ s.used
     remove_from = used_from s.sound (place i) i.located.spotted at_some hit
 
-    pub replace_left : {v : ℕ} → v ≢ 0 → Put s.rows s.columns s.used s.spare.free s.spare.fresh (heads_of s) (heads_of s) (cells_of s) (set (cells_of s) (p.at - 1) (recoded (cell (cells_of s) (p.at - 1)) v)) p.row p.column v
-    replace_left some = put_replaced s.sound (place i) i.located.spotted at_some hit (omega (arith, some)) refl refl
+    pub replace_left : {cells' : List Cell} {v : ℕ} → v ≢ 0 → cells' ≡ set (cells_of s) (p.at - 1) (recoded (cell (cells_of s) (p.at - 1)) v)
+        → Put s.shape.rows s.shape.columns s.used s.spare.free s.spare.fresh (heads_of s) (heads_of s) (cells_of s) cells' p.row p.column v
+    replace_left some ec = put_replaced s.sound (place i) i.located.spotted at_some hit (omega (arith, some)) refl ec

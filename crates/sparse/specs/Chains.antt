@@ -74,7 +74,7 @@ pub record Walkable (c : ℕ) (heads : List ℕ) (cells : List Cell) : Type 0 wh
 abbrev pub Stands : List Cell → ℕ → ℕ → Type 0
 Stands cells c link = (link ≢ 0) → (column_at cells (link - 1) ≡ c) × (1 ≤ row_at cells (link - 1))
 
--- where a row belongs in the chain of a column: `before` is the last link below it, `at` the first that is not
+-- where a row belongs in the chain of a column: `before` is the last link before it, `at` the first that is not
 pub record Spotted (cells : List Cell) (c r before at : ℕ) : Type 0 where
   pub stands : Stands cells c before
   pub below : row_of cells before < r

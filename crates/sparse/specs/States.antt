@@ -17,7 +17,7 @@ abbrev pub heads_of : Sparse → List ℕ
 heads_of s = s.heads.now
 
 abbrev pub matrix_of : Sparse → Matrix
-matrix_of s = held s.rows s.columns (cells_of s)
+matrix_of s = held s.shape.rows s.shape.columns (cells_of s)
 
 abbrev pub terms_of : Sparse → Terms
 terms_of s = sparse_terms (length (cells_of s)) (length (heads_of s))
@@ -32,17 +32,17 @@ pub record Taken (cells : List Cell) (spare : Spare) (link : ℕ) (left : Spare)
 pub record Located (s : Sparse) (p : Spot) : Type 0 where
   pub row_from : 1 ≤ p.row
   pub column_from : 1 ≤ p.column
-  pub column_to : p.column ≤ s.columns
+  pub column_to : p.column ≤ s.shape.columns
   pub spotted : Spotted (cells_of s) p.column p.row p.before p.at
 
 -- what is found for a row and a column: their spot, or that there is none
 abbrev pub Sought : Sparse → ℕ → ℕ → Option Spot → Type 0
-Sought s r c None = 1 ≤ r → 1 ≤ c → s.columns < c
+Sought s r c None = 1 ≤ r → 1 ≤ c → s.shape.columns < c
 Sought s r c (Some p) = (p.row ≡ r) × (p.column ≡ c) × Located s p
 
 -- the spot of a place of the shape
 pub record Inside (s : Sparse) (p : Spot) : Type 0 where
-  pub row_to : p.row ≤ s.rows
+  pub row_to : p.row ≤ s.shape.rows
   pub located : Located s p
 
 abbrev pub entry_at : Sparse → Spot → ℕ
@@ -50,8 +50,8 @@ entry_at s p = (matrix_of s).at p.row p.column
 
 -- what stays under every put
 pub record Stays (s s' : Sparse) (p : Spot) : Type 0 where
-  pub rows : s'.rows ≡ s.rows
-  pub columns : s'.columns ≡ s.columns
+  pub rows : s'.shape.rows ≡ s.shape.rows
+  pub columns : s'.shape.columns ≡ s.shape.columns
   pub terms : terms_of s' ≡ terms_of s
   pub kept : Kept (cells_of s) (cells_of s') p.row p.column
 

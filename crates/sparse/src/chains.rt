@@ -1,11 +1,13 @@
 // Chains of cells, one to a column, rows rising. A link is a cell's place plus one, and 0 ends a chain.
+// Cells and heads are two parameters here, since the functions work in place over the two slices that are lent.
 ghost use Rattle.std.specs.Prelude.{◌≡◌, ℕ, ◌-◌, ◌<◌, ◌≤◌, length, slice_index, slice_set};
-ghost use Rattle.sparse.specs.Chains.{Leads, Walkable, Stands, Follows, Spotted, Unused, row_of, linked_cells, linked_heads};
+ghost use Rattle.sparse.specs.Cells.{cell, next_at};
+ghost use Rattle.sparse.specs.Chains.{Leads, Walkable, Stands, Follows, Spotted, Unused, row_of, recoded, linked_cells, linked_heads};
 
 use crate::cell::Cell;
 
-// Where a row belongs in the chain of a column: the last link below it, and the first that is not.
-// Links are kept as the lent cells hold them, with 0 for none, since an edit writes them there.
+// Where a row belongs in the chain of a column: the last link before it, and the first that is not.
+// Its links, and that of `Spare`, are kept as cells and heads hold them, with 0 for none, since an edit writes them there.
 #[derive(Clone, Copy)]
 pub(crate) struct Spot {
     pub(crate) row: u32,
@@ -26,11 +28,16 @@ pub(crate) fn cell_at(cells: &[Cell], link: u16) -> Option<Cell>
     requires { link ≤ length cells.now }
     ensures { Leads cells.now link result }
 {
-    if link == 0 {
-        None
-    } else {
-        Some(cells[(link - 1) as usize])
-    }
+    let place = link.checked_sub(1)?;
+    Some(cells[usize::from(place)])
+}
+
+// The link that a cell leads on to.
+pub(crate) fn next_of(cells: &[Cell], link: u16) -> u16
+    requires { (1 ≤ link) × (link ≤ length cells.now) }
+    ensures { result ≡ next_at cells.now (link - 1) }
+{
+    cells[(link - 1) as usize].next
 }
 
 // The link after a cell of the column, or the column's first.
@@ -71,7 +78,7 @@ pub(crate) fn seek(cells: &[Cell], heads: &[u16], row: u32, column: u32, from: u
     }
 }
 
-// Takes the cells before the place `fresh`, from which on none is in use, out of use, and empties the first so many chains.
+// Clears every cell before the place `fresh`, and empties the first so many chains. No cell from `fresh` on is in use.
 pub(crate) fn clear(cells: &mut [Cell], fresh: usize, heads: &mut [u16], columns: usize)
     requires fresh { fresh ≤ length cells.old }
     requires past { Unused fresh cells.old }
@@ -85,7 +92,8 @@ pub(crate) fn clear(cells: &mut [Cell], fresh: usize, heads: &mut [u16], columns
     heads[..columns].fill(0);
 }
 
-// Writes a cell, and changes the link after another one of the spot's column or the column's first.
+// Writes `value` to the cell at `link`, and makes `to` the link after the spot's `before`: the next of that cell, or, where
+// `before` is 0, the head of the spot's column.
 pub(crate) fn edit(
     cells: &mut [Cell],
     heads: &mut [u16],
@@ -101,9 +109,16 @@ pub(crate) fn edit(
     ensures heads { heads.new ≡ linked_heads heads.old spot.column spot.before to }
 {
     cells[(link - 1) as usize] = value;
-    if spot.before == 0 {
-        heads[(spot.column - 1) as usize] = to;
-    } else {
-        cells[(spot.before - 1) as usize].next = to;
+    match spot.before.checked_sub(1) {
+        None => heads[(spot.column - 1) as usize] = to,
+        Some(place) => cells[usize::from(place)].next = to,
     }
+}
+
+// Changes the code of a cell.
+pub(crate) fn recode(cells: &mut [Cell], link: u16, code: u16)
+    requires { (1 ≤ link) × (link ≤ length cells.old) }
+    ensures { cells.new ≡ slice_set cells.old (link - 1) (recoded (cell cells.old (link - 1)) code) }
+{
+    cells[(link - 1) as usize].code = code;
 }

@@ -4,13 +4,20 @@ ghost use Rattle.matrix.specs.Matrix.{put_at};
 ghost use Rattle.matrix.specs.Terms.{told, put_outcome, put_after};
 ghost use Rattle.sparse.specs.States.{cells_of, entry_at, matrix_of, terms_of, Taken, Inside, Stays, Left};
 
-use crate::cell::Cell;
-use crate::chains::{Spare, Spot, edit};
+use crate::cell::{Cell, MAX_CELLS};
+use crate::chains::{Spare, Spot, edit, recode};
 use crate::sparse::Sparse;
 use refusal::Refusal;
 
 impl<'a> Sparse<'a> {
-    // The link to a cell that is not in use, and what is spare once it is.
+    // The most cells that can be in use.
+    fn limit(&self) -> usize
+        ensures { result ≡ min (length (cells_of self.now)) 65535 }
+    {
+        self.cells.len().min(MAX_CELLS)
+    }
+
+    // The link to a cell that is not in use, and the cells that are spare when that one is taken.
     fn idle(&self) -> (u16, Spare)
         requires { self.now.used < min (length (cells_of self.now)) 65535 }
         ensures { Taken (cells_of self.now) self.now.spare result.0 result.1 }
@@ -60,7 +67,7 @@ impl<'a> Sparse<'a> {
         requires there { entry_at self.old spot ≢ 0 }
         ensures { Left self.old self.new spot 0 }
     {
-        let next = self.cells[(spot.at - 1) as usize].next;
+        let next = self.next(spot.at);
         let cell = Cell {
             next: self.spare.free,
             ..Cell::default()
@@ -77,7 +84,7 @@ impl<'a> Sparse<'a> {
         requires code { code ≢ 0 }
         ensures { Left self.old self.new spot code }
     {
-        self.cells[(spot.at - 1) as usize].code = code;
+        recode(self.cells, spot.at, code);
     }
 
     // Sets the entry of a spot. Inlined, since each step of an addition comes to it.
@@ -90,7 +97,7 @@ impl<'a> Sparse<'a> {
     {
         match (self.code(spot), code) {
             (0, 0) => Ok(()),
-            (0, _) if self.used as usize >= self.cells.len().min(65535) => Err(Refusal::StoreFull),
+            (0, _) if self.used as usize >= self.limit() => Err(Refusal::StoreFull),
             (0, _) => {
                 self.insert(spot, code);
                 Ok(())

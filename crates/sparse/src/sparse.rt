@@ -5,34 +5,36 @@ ghost use Rattle.matrix.specs.Terms.{itself};
 ghost use Rattle.sparse.specs.Cells.{held, held_outside, sparse_terms};
 ghost use Rattle.sparse.specs.Sound.{Sound};
 
-use crate::cell::Cell;
+use crate::cell::{CODE_BOUND, Cell, MAX_ROWS};
 use crate::chains::{Spare, clear};
 use field::Field;
 use matrix::grid::Grid;
+use matrix::layout::Shape;
 use matrix::store::Store;
 use refusal::Refusal;
 
 #[derive(Drop)]
 pub struct Sparse<'a> {
-    pub(crate) rows: u32,
-    pub(crate) columns: u32,
+    pub(crate) shape: Shape,
     pub(crate) used: u16,
     pub(crate) spare: Spare,
     pub(crate) cells: &'a mut [Cell],
     pub(crate) heads: &'a mut [u16],
-    ghost sound: { Sound rows columns used spare.free spare.fresh heads.now cells.now },
+    ghost sound: { Sound shape.rows shape.columns used spare.free spare.fresh heads.now cells.now },
 }
 
 impl<'a> Sparse<'a> {
     // A store of shape 0 by 0, whatever the cells and the heads hold.
     pub fn new(cells: &'a mut [Cell], heads: &'a mut [u16]) -> Sparse<'a>
-        ensures holds { held result.rows result.columns result.cells.now ≡ blank 0 0 }
+        ensures holds { held result.shape.rows result.shape.columns result.cells.now ≡ blank 0 0 }
         ensures terms { sparse_terms (length result.cells.now) (length result.heads.now) ≡ sparse_terms (length cells.old) (length heads.old) }
     {
         cells.fill(Cell::default());
         Sparse {
-            rows: 0,
-            columns: 0,
+            shape: Shape {
+                rows: 0,
+                columns: 0,
+            },
             used: 0,
             spare: Spare::default(),
             cells,
@@ -42,35 +44,35 @@ impl<'a> Sparse<'a> {
 }
 
 impl<'a> Grid for Sparse<'a> {
-    ghost holds = { λ s. held s.rows s.columns s.cells.now };
+    ghost holds = { λ s. held s.shape.rows s.shape.columns s.cells.now };
 
-    ghost outside = { λ s. held_outside s.rows s.columns s.cells.now };
+    ghost outside = { λ s. held_outside s.shape.rows s.shape.columns s.cells.now };
 
     fn rows(&self) -> u32 {
-        self.rows
+        self.shape.rows
     }
 
     fn columns(&self) -> u32 {
-        self.columns
+        self.shape.columns
     }
 
     fn entry(&self, row: u32, column: u32) -> u16 {
-        match self.spot(row, column, 0) {
+        match self.spot(row, column) {
             Some(spot) => self.code(spot),
             None => 0,
         }
     }
 
-    // One walk, to the first cell that is not above the row.
+    // One walk, to the first cell that is not before the row.
     fn next_nonzero(&self, column: u32, first: u32) -> Option<u32> {
-        let spot = self.spot(first.max(1), column, 0)?;
+        let spot = self.spot(first.max(1), column)?;
         let cell = self.cell(spot.at)?;
         Some(cell.row as u32)
     }
 
-    // One walk, to the last cell that is not below the row.
+    // One walk, to the last cell that is not after the row.
     fn last_nonzero(&self, column: u32, last: u32) -> Option<u32> {
-        let spot = self.spot(last.min(self.rows) + 1, column, 0)?;
+        let spot = self.spot(last.min(self.shape.rows) + 1, column)?;
         let cell = self.cell(spot.before)?;
         Some(cell.row as u32)
     }
@@ -82,21 +84,20 @@ impl<'a> Store for Sparse<'a> {
     ghost backing = { λ s. itself };
 
     fn begin(&mut self, rows: u32, columns: u32) -> Result<(), Refusal> {
-        if rows > 65535 || columns as usize > self.heads.len() {
+        if rows > MAX_ROWS || columns as usize > self.heads.len() {
             return Err(Refusal::ShapeNotTaken);
         }
         let fresh = self.spare.fresh as usize;
         clear(self.cells, fresh, self.heads, columns as usize);
-        self.rows = rows;
-        self.columns = columns;
+        self.shape = Shape { rows, columns };
         self.used = 0;
         self.spare = Spare::default();
         Ok(())
     }
 
     fn put(&mut self, row: u32, column: u32, code: u16) -> Result<(), Refusal> {
-        match self.spot(row, column, 0) {
-            Some(spot) if row <= self.rows => self.set(spot, code),
+        match self.spot(row, column) {
+            Some(spot) if row <= self.shape.rows => self.set(spot, code),
             _ => Err(Refusal::OutsideShape),
         }
     }
@@ -106,7 +107,7 @@ impl<'a> Store for Sparse<'a> {
     }
 
     fn code_bound(&self) -> u32 {
-        65536
+        CODE_BOUND
     }
 
     // One walk along both chains: the rows of `from` rise, so that each search in `to` goes on where the last one ended.
@@ -117,14 +118,14 @@ impl<'a> Store for Sparse<'a> {
         to: u32,
         factor: u16,
     ) -> Result<(), Refusal> {
-        let Some(first) = self.spot(1, from, 0) else {
+        let Some(first) = self.spot(1, from) else {
             return Ok(());
         };
         let mut link = first.at;
         let mut before = 0;
         while let Some(cell) = self.cell(link) {
             let row = cell.row as u32;
-            let Some(spot) = self.spot(row, to, before) else {
+            let Some(spot) = self.spot_after(row, to, before) else {
                 return Err(Refusal::OutsideShape);
             };
             let sum = field.sum(self.code(spot), field.product(factor, cell.code));

@@ -1,21 +1,28 @@
 // Where the entries of a sparse store stand in the chains of their columns.
-ghost use Rattle.std.specs.Prelude.{◌≡◌, ◌<◌, ◌≤◌, length, ◌≢◌};
+ghost use Rattle.std.specs.Prelude.{◌≡◌, ◌-◌, ◌<◌, ◌≤◌, length, ◌≢◌};
+ghost use Rattle.sparse.specs.Cells.{next_at};
 ghost use Rattle.sparse.specs.Chains.{Leads, Stands, row_of};
 ghost use Rattle.sparse.specs.States.{cells_of, entry_at, Sought, Located};
 
 use crate::cell::Cell;
-use crate::chains::{Spot, cell_at, seek};
+use crate::chains::{Spot, cell_at, next_of, seek};
 use crate::sparse::Sparse;
 
 impl<'a> Sparse<'a> {
-    // The spot of a row in a column, none where either is 0 or the column is past the last. The walk begins behind a link
-    // of the column, or, where that is 0, at its head.
-    pub(crate) fn spot(&self, row: u32, column: u32, from: u16) -> Option<Spot>
+    // The spot of a row in a column, none where either is 0 or the column is past the last.
+    pub(crate) fn spot(&self, row: u32, column: u32) -> Option<Spot>
+        ensures { Sought self.now row column result }
+    {
+        self.spot_after(row, column, 0)
+    }
+
+    // The same, where the walk begins after a link of the column, and at its head where that is 0, as a spot's `before` may be.
+    pub(crate) fn spot_after(&self, row: u32, column: u32, from: u16) -> Option<Spot>
         requires stands { Stands (cells_of self.now) column from }
         requires below { (row ≢ 0) → row_of (cells_of self.now) from < row }
         ensures { Sought self.now row column result }
     {
-        if row == 0 || column == 0 || column > self.columns {
+        if row == 0 || column == 0 || column > self.shape.columns {
             return None;
         }
         Some(seek(self.cells, self.heads, row, column, from))
@@ -27,6 +34,14 @@ impl<'a> Sparse<'a> {
         ensures { Leads (cells_of self.now) link result }
     {
         cell_at(self.cells, link)
+    }
+
+    // The link that a cell of the store leads on to.
+    pub(crate) fn next(&self, link: u16) -> u16
+        requires { (1 ≤ link) × (link ≤ length (cells_of self.now)) }
+        ensures { result ≡ next_at (cells_of self.now) (link - 1) }
+    {
+        next_of(self.cells, link)
     }
 
     // The entry at a spot.
