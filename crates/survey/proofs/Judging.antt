@@ -1,12 +1,14 @@
 -- What judging accepts keeps the rules, and what keeps them is accepted.
-use Rattle.std.proofs.Common.{◌≡◌, ℕ, ◌≤◌, true, false, not, ◌&&◌, length, sym, ap, ◌∙◌, arith}
+use Rattle.std.proofs.Common.{◌≡◌, ℕ, ◌≤◌, true, false, not, ◌&&◌, length, nat_le, None, sym, ap, ◌∙◌, arith}
 use mathlib.Core.Bool.{and-not_self}
-use Rattle.std.proofs.lemmas.Bool.{and_parts, and_from, leb-true, le-leb, cond-true, cond-false, not-false}
+use Rattle.std.proofs.lemmas.Bool.{and_parts, and_from, leb-true, le-leb, cond-true, cond-false, not-false, false_from_ne_true}
 use Rattle.std.proofs.lemmas.Bool.Decides.{same_from_decides}
-use Rattle.refusal.specs.Outcomes.{accepted}
+use Rattle.refusal.specs.Outcomes.{accepted, refused}
 use Rattle.refusal.proofs.Outcomes.{taken_parts, left_parts, same_from_accepted}
+use Rattle.survey.specs.Lists.{fitting}
 use Rattle.survey.specs.Surveys.{Survey, sensors, edges, triangles, everyone, steps, all_linked, distinct, nobody, one_sided_of, judged, Valid}
-use Rattle.survey.proofs.Lists.{member_numbers, any_false, any_none}
+use Rattle.survey.proofs.Fences.{length_distinct}
+use Rattle.survey.proofs.Lists.{none_fits, member_numbers, any_false, any_none}
 
 -- the rules that judging looks at
 pub record Judged (s : Survey) : Type 0 where
@@ -43,6 +45,15 @@ judged_accepted s j =
     ∙ cond-true _ _ _ (le-leb _ _ j.few_links)
     ∙ cond-true _ _ _ (le-leb _ _ j.few_triangles)
     ∙ cond-true _ _ _ j.closed
+
+-- a list that does not fit holds a sensor twice, or one that is none
+pub long_refused : (s : Survey) → s.count ≤ 64 → None ≡ fitting s.fence → judged s ≡ refused 5
+long_refused s few none = cond-false _ _ _ (false_from_ne_true _ apart)
+  where
+    apart : (nat_le 3 (length s.fence) && distinct s.count nobody s.fence) ≡ true → ⊥
+    apart e =
+        let parts = and_parts (nat_le 3 (length s.fence)) (distinct s.count nobody s.fence) e in
+        omega (arith, none_fits s.fence none, length_distinct s.count s.fence parts.1, few)
 
 -- links that go both ways are those of which none is one-sided
 

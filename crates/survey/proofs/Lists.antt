@@ -1,11 +1,16 @@
--- Sums, gatherings and members along lists and runs of numbers.
-use Rattle.std.proofs.Common.{◌≡◌, ℕ, zero, suc, ◌+◌, ◌<◌, ◌≤◌, Bool, true, false, cond, ◌&&◌, ◌||◌, eqb, List, [], ◌∷◌, ◌++◌, length, sym, refl, ap, ◌∙◌, ap₂, inl, inr, arith, length-append}
+-- Sums, gatherings and members along lists and runs of numbers, and lists that fit.
+use Rattle.std.proofs.Common.{◌≡◌, ℕ, zero, suc, ◌+◌, ◌<◌, ◌≤◌, Bool, true, false, cond, ◌&&◌, ◌||◌, eqb, List, [], ◌∷◌, ◌++◌, length, None, sym, refl, ap, ◌∙◌, ap₂, inl, inr, arith, length-append}
 use Rattle.std.proofs.lemmas.Bool.{cases_eq, eq-eqb, eqb-true, or_left, or_right, or_from, or_parts, or_cases, and_right, both_ways}
-use Rattle.survey.specs.Lists.{numbers, gather, member, any}
+use Rattle.std.proofs.lemmas.Bool.Decides.{nat_tests}
+use Rattle.survey.specs.Lists.{numbers, gather, member, any, fitting}
 
 pub false_from : (t : Bool) → (t ≡ true → ⊥) → t ≡ false
 false_from true h = absurd (h refl)
 false_from false h = refl
+
+-- a list that does not fit
+pub none_fits : (list : List ℕ) → None ≡ fitting list → 64 < length list
+none_fits list e = grind (arith, nat_tests)
 
 -- runs of numbers
 

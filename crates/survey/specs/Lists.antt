@@ -1,5 +1,5 @@
--- Runs of numbers, and what is gathered along a list.
-use Rattle.std.specs.Prelude.{ℕ, zero, suc, ◌+◌, Bool, false, cond, ◌||◌, List, [], ◌∷◌, ◌++◌, length, ◌==◌, nat_lt, slice_index}
+-- Runs of numbers, what is gathered along a list, and lists that fit.
+use Rattle.std.specs.Prelude.{ℕ, zero, suc, ◌+◌, Bool, false, cond, ◌||◌, List, [], ◌∷◌, ◌++◌, length, Some, None, Option, ◌==◌, nat_le, nat_lt, slice_index}
 
 -- k, k + 1, .., n of them
 abbrev pub numbers : ℕ → ℕ → List ℕ
@@ -23,3 +23,11 @@ any f (x ∷ xs) = f x || any f xs
 -- what stands after the place i, round the list; 0 if it is empty
 abbrev pub after : List ℕ → ℕ → ℕ
 after xs i = cond (nat_lt (i + 1) (length xs)) (slice_index xs (i + 1)) (slice_index xs 0)
+
+-- at most as many numbers as there can be sensors
+abbrev pub fitting : List ℕ → Option (List ℕ)
+fitting xs = cond (nat_le (length xs) 64) (Some xs) None
+
+-- one number more at the end, if it fits
+abbrev pub with_number : List ℕ → ℕ → Option (List ℕ)
+with_number xs v = fitting (xs ++ v ∷ [])

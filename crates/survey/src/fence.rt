@@ -1,48 +1,12 @@
-// A fence: sensors in cycle order, all different, each linked to the next and the last to the first.
-ghost use Rattle.std.specs.Prelude.{◌≡◌, ◌≤◌, ◌&&◌, [], length, nat_le};
+// What makes a list of sensors a fence: three or more, all different, each linked to the next and the last to the first.
+ghost use Rattle.std.specs.Prelude.{◌≡◌, ◌&&◌, [], length, nat_le};
 ghost use Rattle.survey.specs.Lists.{after};
 ghost use Rattle.survey.specs.Surveys.{distinct, nobody, all_linked, steps};
 ghost use Rattle.survey.specs.Views.{drawn};
 
-use crate::limits::{MAX_FENCE, MIN_FENCE};
+use crate::limits::MIN_FENCE;
 use crate::neighbours::Neighbours;
 use crate::sensor_set::SensorSet;
-use std::marker::Model;
-
-// Up to 64 sensors, in a table of fixed size, since there is no heap here.
-#[derive(Drop)]
-pub(crate) struct Fence {
-    table: [u16; MAX_FENCE],
-    len: usize,
-}
-
-impl Model for Fence {
-    ghost use Rattle.std.specs.Prelude.{ℕ, ◌≤◌, List, take};
-
-    ghost Value = { List ℕ };
-
-    ghost view = { λ f. take f.len f.table };
-
-    ghost invariant = { λ f. f.len ≤ 64 };
-}
-
-impl Fence {
-    pub(crate) fn new(sensors: &[u16]) -> Fence
-        requires { length sensors.now ≤ 64 }
-        ensures { result ≡ sensors.now }
-    {
-        let len = sensors.len();
-        let mut table = [0; MAX_FENCE];
-        table[..len].copy_from_slice(sensors);
-        Fence { table, len }
-    }
-
-    pub(crate) fn sensors(&self) -> &[u16]
-        ensures { result.now ≡ self.now }
-    {
-        &self.table[..self.len]
-    }
-}
 
 // The sensor after the place `i`, round the fence: the first after the last, and 0 if there is none.
 // It is no Option: who asks is at a place of the fence, and would only unwrap it.
@@ -82,11 +46,9 @@ impl Neighbours {
     pub(crate) fn is_closed(&self, fence: &[u16]) -> bool
         ensures { result ≡ all_linked (drawn self.now []) (steps fence.now) }
     {
-        for (i, &u) in fence.iter().enumerate() {
-            if !self.names(u, next(fence, i)) {
-                return false;
-            }
-        }
-        true
+        fence
+            .iter()
+            .enumerate()
+            .all(|(i, x)| self.names(*x, next(fence, i)))
     }
 }

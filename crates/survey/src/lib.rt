@@ -4,7 +4,8 @@
 mod counts;
 pub mod edge;
 pub mod fence;
-pub mod limits;
+mod limits;
 pub mod neighbours;
 pub mod plan;
+pub mod sensor_list;
 pub mod sensor_set;

@@ -4,8 +4,8 @@ ghost use Rattle.survey.specs.Tables.{at};
 
 use crate::limits::PLACES;
 
-// The sensors are 1 to `count`; `rows[x][y]` says that x names y, in a table of fixed size, since there is no heap here. A name may stand
-// on one side only.
+// The sensors are 1 to `count`; `rows[x][y]` says that x names y, in a table of fixed size, since there is no heap here.
+// A name may stand on one side only.
 #[derive(Drop)]
 pub struct Neighbours {
     count: u16,

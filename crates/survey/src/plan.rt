@@ -4,14 +4,14 @@ ghost use Rattle.survey.specs.Surveys.{edges, triangles, everyone, Valid};
 ghost use Rattle.survey.specs.Rules.{Valid-prop};
 ghost use Rattle.survey.specs.Views.{drawn};
 
-use crate::fence::Fence;
 use crate::neighbours::Neighbours;
+use crate::sensor_list::SensorList;
 
 // It keeps every rule. It has no model, since who is linked to whom is a function.
 #[derive(Drop)]
 pub struct Survey {
     neighbours: Neighbours,
-    fence: Fence,
+    fence: SensorList,
     link_count: u16,
     triangle_count: u32,
     ghost rules: { Valid (drawn neighbours fence) } by { Valid-prop (drawn neighbours fence) },

@@ -5,7 +5,8 @@ ghost use Rattle.survey.specs.Surveys.{nobody};
 
 use crate::limits::{MAX_SENSORS, PLACES};
 
-// A table of fixed size, since there is no heap here. It has no model: contracts see a set as a function, which no model can have as its value.
+// A table of fixed size, since there is no heap here. It has no model: contracts see a set as a function, which no model
+// can have as its value.
 #[derive(Clone, Copy)]
 pub struct SensorSet {
     on: [bool; PLACES],

@@ -1,11 +1,12 @@
 -- A list of numbers, column by column.
-use Rattle.std.proofs.Common.{◌≡◌, ℕ, ◌<◌, Bool, true, false, cond, nat_le, List, [], ◌∷◌, ◌++◌, length, drop, Some, None, Option, sym, refl, ap, ◌∙◌, append_assoc, arith, length-append}
+use Rattle.std.proofs.Common.{◌≡◌, ℕ, Bool, true, false, cond, nat_le, List, [], ◌∷◌, ◌++◌, length, drop, Some, None, Option, sym, refl, ap, ◌∙◌, append_assoc, arith, length-append}
 use Rattle.std.specs.Option.{option_and_then}
 use Rattle.std.proofs.lemmas.Bool.{cond-false}
 use Rattle.std.proofs.lemmas.Bool.Decides.{nat_tests}
 use Rattle.refusal.specs.Outcomes.{Outcome, accepted, refused}
 use Rattle.refusal.proofs.Outcomes.{refused_accepted, same_from_accepted}
-use Rattle.text.specs.Lines.{fitting, with_number, fitted}
+use Rattle.survey.specs.Lists.{fitting, with_number}
+use Rattle.text.specs.Lines.{fitted}
 use Rattle.text.specs.Reading.{Read, led_by, a_list}
 use Rattle.text.specs.Tokens.{number, part_first}
 
@@ -63,9 +64,6 @@ fitted_accepted (refused k) f rest e = absurd (refused_accepted (sym e))
 pub fitted_refused : (o : Outcome (Read (List ℕ))) (k : ℕ) → refused k ≡ fitted o → o ≡ refused k
 fitted_refused (accepted r) k e = absurd (refused_accepted e)
 fitted_refused (refused m) k e = cc
-
-pub none_fits : (list : List ℕ) → None ≡ fitting list → 64 < length list
-none_fits list e = grind (arith, nat_tests)
 
 pub some_fits : (xs list : List ℕ) → Some xs ≡ fitting list → xs ≡ list
 some_fits xs list e = grind (arith, nat_tests)

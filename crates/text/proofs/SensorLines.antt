@@ -6,12 +6,13 @@ use Rattle.std.proofs.lemmas.Bool.Decides.{nat_tests}
 use Rattle.refusal.specs.declared.Refusal.{Refusal}
 use Rattle.refusal.specs.Outcomes.{Outcome, accepted, refused, and_then}
 use Rattle.survey.specs.declared.neighbours.Neighbours.{Neighbours}
-use Rattle.survey.specs.Lists.{member}
+use Rattle.survey.specs.Lists.{member, fitting}
 use Rattle.survey.specs.Tables.{at}
+use Rattle.survey.proofs.Lists.{none_fits}
 use Rattle.text.specs.Reading.{Read, byte, formed, a_number, a_list, rising, a_sensor_line, row_before, sensor_lines_of, names}
-use Rattle.text.proofs.Lists.{fitted_accepted, fitted_refused, none_fits, some_fits}
+use Rattle.text.proofs.Lists.{fitted_accepted, fitted_refused, some_fits}
 use Rattle.text.proofs.Rising.{rising_long}
-use Rattle.text.specs.Lines.{fitting, fitted, NamesAll, Neighboured, LineRead, LinesRead}
+use Rattle.text.specs.Lines.{fitted, NamesAll, Neighboured, LineRead, LinesRead}
 
 -- the values of a line, once its form is read
 abbrev valued : ℕ → ℕ → ℕ → Read (List ℕ) → Outcome (Read (List ℕ))

@@ -1,22 +1,22 @@
 -- A survey from its lines: what reading comes to once they are read.
-use Rattle.std.proofs.Common.{◌≡◌, ℕ, ◌-◌, ◌<◌, ◌≤◌, Bool, false, ◌&&◌, leb, List, length, take, drop, Some, None, Ok, Err, Option, Result, sym, refl, ap, ◌∙◌, inl, inr, arith, length-append}
+use Rattle.std.proofs.Common.{◌≡◌, ℕ, ◌-◌, ◌≤◌, Bool, List, length, take, drop, Some, None, Ok, Err, Option, Result, sym, refl, ap, ◌∙◌, arith, length-append}
 use mathlib.Core.Path.{fun_ext}
 use Rattle.std.proofs.lemmas.List.{take_at, drop_at}
-use Rattle.std.proofs.lemmas.Bool.{cases_Bool, and_parts, cond-false}
 use Rattle.refusal.specs.declared.Refusal.{Refusal}
 use Rattle.refusal.specs.Outcomes.{Outcome, accepted, refused, and_then, outcome}
 use Rattle.survey.specs.declared.neighbours.Neighbours.{Neighbours}
 use Rattle.survey.specs.declared.plan.Survey.{Survey as Plan}
+use Rattle.survey.specs.Lists.{fitting}
 use Rattle.survey.specs.Plans.{survey_of}
-use Rattle.survey.specs.Surveys.{Survey, judged, distinct, nobody}
+use Rattle.survey.specs.Surveys.{Survey, judged}
 use Rattle.survey.specs.Tables.{at}
 use Rattle.survey.specs.Views.{drawn}
-use Rattle.survey.proofs.Fences.{length_distinct}
+use Rattle.survey.proofs.Judging.{long_refused}
 use Rattle.text.specs.Reading.{Read, count_line_of, sensor_lines_of, fence_line_of, names, reading}
-use Rattle.text.specs.Lines.{fitting, fitted, LinesRead}
+use Rattle.text.specs.Lines.{fitted, LinesRead}
 use Rattle.text.specs.Text.{text}
 use Rattle.text.proofs.Accepting.{accepted_is_text}
-use Rattle.text.proofs.Lists.{fitted_accepted, none_fits, some_fits}
+use Rattle.text.proofs.Lists.{fitted_accepted, some_fits}
 
 -- a survey, and the bytes behind its text
 abbrev pub with_rest : List ℕ → Survey → Outcome (Read Survey)
@@ -30,16 +30,6 @@ of_fence n rows =
 
 abbrev of_lines : Read ℕ → Outcome (Read Survey)
 of_lines n = and_then (sensor_lines_of n.got n.got 1 n.rest) (of_fence n.got)
-
--- too many sensors for a fence of different ones
-no_fence : (p : Neighbours) (list : List ℕ) → 64 < length list → (leb 3 (length list) && distinct p.count nobody list) ≡ false
-no_fence p list l = elim (cases_Bool (leb 3 (length list) && distinct p.count nobody list)) [
-  | inl t ↦ absurd (omega (arith, length_distinct p.count list (and_parts (leb 3 (length list)) (distinct p.count nobody list) t).1, p.most))
-  | inr f ↦ f
-]
-
-pub judged_long : (p : Neighbours) (list : List ℕ) → 64 < length list → judged (drawn p list) ≡ refused 5
-judged_long p list l = cond-false _ _ _ (no_fence p list l)
 
 -- the lines are read: neighbours, and a fence that is kept if it fits
 pub record Lined (bytes : List ℕ) (new : Neighbours) (f : Option (List ℕ)) (rest : List ℕ) : Type 0 where
@@ -67,7 +57,7 @@ module _ (bytes behind : List ℕ) (old : Neighbours) (first : count_line_of byt
 
 module _ {bytes : List ℕ} {new : Neighbours} {f : Option (List ℕ)} {rest : List ℕ} (lined : Lined bytes new f rest) where
   pub fence_long : f ≡ None → reading bytes ≡ refused 5
-  fence_long none = lined.read ∙ ap (λ o. and_then o (with_rest rest)) (judged_long new lined.list (none_fits lined.list (sym none ∙ lined.fits)))
+  fence_long none = lined.read ∙ ap (λ o. and_then o (with_rest rest)) (long_refused (drawn new lined.list) new.most (sym none ∙ lined.fits))
 
   pub survey_read : (xs : List ℕ) (r : Result Plan Refusal) → f ≡ Some xs → outcome survey_of r ≡ judged (drawn new xs)
       → outcome (λ s. record { got = survey_of s; rest = rest }) r ≡ reading bytes

@@ -1,11 +1,11 @@
 -- What the functions that read a line leave, by what the definitions read.
-use Rattle.std.specs.Prelude.{◌≡◌, ℕ, true, false, cond, ◌&&◌, ◌||◌, List, [], ◌∷◌, ◌++◌, length, drop, Some, None, Ok, Err, Option, Result, ◌==◌, nat_le}
+use Rattle.std.specs.Prelude.{◌≡◌, ℕ, true, false, ◌&&◌, ◌||◌, List, drop, Some, Ok, Err, Option, Result, ◌==◌}
 use Rattle.refusal.specs.declared.Refusal.{Refusal}
 use Rattle.refusal.specs.Numbers.{number_of}
 use Rattle.refusal.specs.Outcomes.{Outcome, accepted, refused, and_then}
 use Rattle.survey.specs.declared.neighbours.Neighbours.{Neighbours}
 use Rattle.survey.specs.declared.plan.Survey.{Survey as Plan}
-use Rattle.survey.specs.Lists.{member}
+use Rattle.survey.specs.Lists.{member, fitting}
 use Rattle.survey.specs.Plans.{survey_of}
 use Rattle.survey.specs.Surveys.{Survey}
 use Rattle.survey.specs.Tables.{at}
@@ -16,14 +16,6 @@ use Rattle.text.specs.Tokens.{mark, part_by}
 -- a token by itself
 abbrev pub IsMark : ℕ → Type 0
 IsMark a = (rest : List ℕ) → part_by (symbol_of a) a rest ≡ Some (mark a)
-
--- at most as many numbers as there can be sensors
-abbrev pub fitting : List ℕ → Option (List ℕ)
-fitting xs = cond (nat_le (length xs) 64) (Some xs) None
-
--- one number more at the end, if it fits
-abbrev pub with_number : List ℕ → ℕ → Option (List ℕ)
-with_number xs v = fitting (xs ++ v ∷ [])
 
 abbrev pub fitting_read : Read (List ℕ) → Outcome (Read (Option (List ℕ)))
 fitting_read r = accepted (record { got = fitting r.got; rest = r.rest })

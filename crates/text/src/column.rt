@@ -48,7 +48,8 @@ fn lead_byte(v: u16) -> u8
     if v == 0 { b' ' } else { b'0' + (v % 10) as u8 }
 }
 
-// The column of a number.
+// The column of a number. A format with a width promises no more than a least width; a column has four bytes whatever
+// the number.
 pub(crate) fn column_bytes(v: u16) -> [u8; 4]
     ensures { result ≡ column v }
 {

@@ -3,7 +3,6 @@
 
 pub mod column;
 mod line;
-mod numbers;
 pub mod read;
 mod reader;
 pub mod symbol;

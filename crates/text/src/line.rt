@@ -5,10 +5,10 @@ ghost use Rattle.survey.specs.Tables.{at as at_table};
 ghost use Rattle.text.specs.Lines.{Neighboured, CountRead, LineRead, LinesRead, fitted};
 ghost use Rattle.text.specs.Reading.{fence_line_of};
 
-use crate::numbers::Numbers;
 use crate::reader::Reader;
 use refusal::Refusal;
 use survey::neighbours::Neighbours;
+use survey::sensor_list::SensorList;
 
 // `x` names each of the list, which has to rise.
 fn name_all(neighbours: &mut Neighbours, x: u16, list: &[u16]) -> Result<(), Refusal>
@@ -62,7 +62,7 @@ impl Reader<'_> {
     }
 
     // The F line; none where it has more numbers than sensors can be.
-    pub(crate) fn fence_line(&mut self) -> Result<Option<Numbers>, Refusal>
+    pub(crate) fn fence_line(&mut self) -> Result<Option<SensorList>, Refusal>
         ensures { outcome (λ list. record { got = list; rest = self.new }) result ≡ fitted (fence_line_of self.old) }
     {
         self.letter('F')?;

@@ -6,12 +6,13 @@ ghost use Rattle.text.specs.Lines.{IsMark, fitted};
 ghost use Rattle.text.specs.Reading.{byte, formed, a_number, a_list};
 ghost use Rattle.text.specs.Tokens.{part_of, part_first, size_of};
 
-use crate::numbers::Numbers;
 use crate::token::{Token, next_token};
 use refusal::Refusal;
 use std::marker::Model;
+use survey::sensor_list::SensorList;
 
-// The text has been read up to the place `at`. A clause sees the bytes that are left.
+// The text has been read up to the place `at`, which stands beside it since a token holds its place. A clause sees the
+// bytes that are left.
 #[derive(Drop)]
 pub(crate) struct Reader<'a> {
     text: &'a [u8],
@@ -84,10 +85,10 @@ impl<'a> Reader<'a> {
     }
 
     // A list of numbers up to the end of its line; none where there are more than sensors can be.
-    pub(crate) fn list(&mut self) -> Result<Option<Numbers>, Refusal>
+    pub(crate) fn list(&mut self) -> Result<Option<SensorList>, Refusal>
         ensures { outcome (λ list. record { got = list; rest = self.new }) result ≡ fitted (formed (a_list self.old)) }
     {
-        let mut numbers = Some(Numbers::new());
+        let mut numbers = Some(SensorList::new());
         loop {
             match self.token() {
                 Some(Token::Number { value, .. }) => {

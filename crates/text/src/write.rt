@@ -12,7 +12,7 @@ use crate::column::column_bytes;
 use refusal::Refusal;
 use survey::plan::Survey;
 
-// The buffer has been written up to the place `at`.
+// The buffer has been written up to the place `at`, which stands beside it since the length of the text is answered.
 #[derive(Drop)]
 struct Writer<'a> {
     out: &'a mut [u8],
