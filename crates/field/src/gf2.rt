@@ -10,6 +10,7 @@ const ORDER: u16 = 2;
 #[derive(Clone, Copy, Debug)]
 pub struct Gf2;
 
+// Each operation has its own guard, no longer than a call of a shared one.
 impl Field for Gf2 {
     ghost arithmetic = { λ _. binary_field };
 

@@ -56,6 +56,7 @@ fn extended_gcd(a: u16, b: u16) -> (u16, i32, i32)
     }
 }
 
+// Each operation has its own guard: it tells that a + b and a b fit 16 bits, which a closure handed to a shared guard would not know.
 impl Field for GfP {
     ghost arithmetic = { λ f. prime_field f.p };
 

@@ -1,4 +1,4 @@
-// Finite fields: the trait that every field implements, GF(2), GF(p), and rows of codes over any field.
+// Finite fields: the trait that every field implements, GF(2), GF(p), fields by tables, and rows of codes over any field.
 #![tactic(auto)]
 
 ghost use Rattle.std.specs.Prelude.{◌≡◌};

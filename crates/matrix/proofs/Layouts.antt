@@ -19,10 +19,6 @@ pub record In (n k i j : ℕ) : Type 0 where
   pub column_from : 1 ≤ j
   pub column_to : j ≤ k
 
--- as code tests it
-pub in_from : (n k i j : ℕ) → (i ≡ 0 → ⊥) → i ≤ n → (j ≡ 0 → ⊥) → j ≤ k → In n k i j
-in_from n k i j a b c d = record { row_from = omega (arith, a); row_to = b; column_from = omega (arith, c); column_to = d }
-
 pub is_in : (n k i j : ℕ) → inside n k i j ≡ true → In n k i j
 is_in n k i j e =
     let ps = and_parts (leb 1 i && leb i n) (leb 1 j && leb j k) e in

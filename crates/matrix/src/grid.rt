@@ -24,7 +24,7 @@ pub trait Grid {
     fn next_nonzero(&self, column: u32, first: u32) -> Option<u32>
         ensures { result ≡ next_in (holds self.now) column first }
     {
-        // A `for`, here and below, since `find` costs the dense reduction up to half more instructions.
+        // A `for`, here and below: with `find` the dense store takes up to half more instructions.
         for row in first..=self.rows() {
             if self.entry(row, column) != 0 {
                 return Some(row);

@@ -1,10 +1,10 @@
-// Entries column by column: the place of one, and what it counts for.
+// The shape of a matrix, and its entries column by column: the place of one, and what it counts for.
 ghost use Rattle.std.specs.Prelude.{◌≡◌, ◌*◌, ◌^◌, ◌<◌};
 ghost use Rattle.matrix.specs.Matrix.{one_if_not_zero};
 ghost use Rattle.matrix.specs.Layout.{place, place_in};
 
 // The shape of a matrix.
-#[derive(Clone, Copy, Debug)]
+#[derive(Clone, Copy, Debug, Default, PartialEq, Eq)]
 pub struct Shape {
     pub rows: u32,
     pub columns: u32,
@@ -18,7 +18,8 @@ impl Shape {
         self.rows as u64 * self.columns as u64
     }
 
-    // The place of an entry, where it lies in the shape. `range` is for a caller that has the shape behind a reference.
+    // The place of an entry, where it lies in the shape. `range` says that rows and columns are numbers of 32 bits, which a proof does not
+    // know by itself of a shape behind a reference.
     pub fn place(self, row: u32, column: u32) -> Option<usize>
         ensures place { result ≡ place_in self.rows self.columns row column }
         ensures range { (self.rows < 2 ^ 32) × (self.columns < 2 ^ 32) }

@@ -10,8 +10,8 @@ use crate::put::Put;
 use field::Field;
 use refusal::Refusal;
 
-// An edit's two clauses on what it leaves alone are apart, since proofs cite them one by one; and a shape is told by two numbers, as each
-// caller has them.
+// An edit leaves terms and backing alone: two clauses, since an implementer shows them apart. Rows, columns and codes are plain numbers,
+// since customers implement these methods.
 pub trait Store: Grid {
     // The code bound, the shapes taken and the entry limits.
     ghost terms: { Self → Terms };
@@ -56,7 +56,7 @@ pub trait Store: Grid {
         ensures terms { terms self.new ≡ terms self.old }
         ensures backing { backing self.new ≡ backing self.old }
     {
-        // Not a `for` over the rows: a store finds its next nonzero row faster than row by row, and after the last there is no `done + 1`.
+        // Not a `for` over the rows: a store finds its next nonzero row faster than row by row, and `done + 1` could overflow after the last row.
         let mut done = 0;
         while done < self.rows() {
             let Some(row) = self.next_nonzero(from, done + 1) else {
