@@ -69,14 +69,14 @@ module _ (F : Arithmetic) (f : FieldLaws F) (E T : ℕ) (N : Entries) where
       ap (next e) (is ∙ ap (owner E N T) (add-one e)) ∙ sym (cond-true _ _ _ (eq-eqb (suc e) (suc e) refl)) ∙ ap (λ n. values F E T N n n) (sym (add-one e))
 
   module _ (e o : ℕ) (is_owner : o ≡ owner E N T (e + 1)) where
-    pub value_owned : (vs : List ℕ) (s n x y p : ℕ) → o ≢ 0 → ((i : ℕ) → 1 ≤ i → i ≤ e → vector vs i ≡ values F E T N e i)
-        → s ≡ total F e (λ r. F.product (vector vs r) (N r o)) → n ≡ F.negative s → x ≡ N (e + 1) o → y ≡ F.inverse x → p ≡ F.product n y
+    pub value_owned : (vs : List ℕ) (s x p : ℕ) → o ≢ 0 → ((i : ℕ) → 1 ≤ i → i ≤ e → vector vs i ≡ values F E T N e i)
+        → s ≡ total F e (λ r. F.product (vector vs r) (N r o)) → x ≡ N (e + 1) o → p ≡ F.product (F.negative s) (F.inverse x)
         → p ≡ values F E T N (e + 1) (e + 1)
     unfolding next
-    value_owned vs s n x y p d same is_sum is_negative is-entry is_inverse is =
+    value_owned vs s x p d same is_sum is-entry is =
         let sum : s ≡ total F e (λ r. F.product (values F E T N e r) (N r o)) = is_sum ∙ total_same F f e _ _ (λ i a b. ap (λ v. F.product v (N i o)) (same i a b)) in
         let entry : x ≡ N (suc e) o = is-entry ∙ ap (λ r. N r o) (add-one e) in
-        is ∙ (λ i. F.product ((is_negative ∙ ap F.negative sum) i) ((is_inverse ∙ ap F.inverse entry) i))
+        is ∙ (λ i. F.product (F.negative (sum i)) (F.inverse (entry i)))
         ∙ sym (cond-false _ _ _ (ne_eqb o 0 d)) ∙ value_is e o is_owner
 
     pub value_top : (x y : ℕ) → o ≡ 0 → low E N (T + 1) ≡ e + 1 → x ≡ N (e + 1) (T + 1) → y ≡ F.inverse x → y ≡ values F E T N (e + 1) (e + 1)

@@ -53,10 +53,7 @@ impl<'a, F: Field> Reducer<'a, F> {
         let row = before + 1;
         if let Some(owner) = self.pivots.owner_of(row) {
             let sum = self.weighted(reduced, codes, owner, before);
-            self.field.product(
-                self.field.negative(sum),
-                self.field.inverse(reduced.entry(row, owner)),
-            )
+            self.minus_over(sum, reduced.entry(row, owner))
         } else if top == row {
             self.field
                 .inverse(reduced.entry(row, self.shape.triangles + 1))
