@@ -4,7 +4,7 @@
 mod counts;
 pub mod edge;
 pub mod fence;
-mod limits;
+pub mod limits;
 pub mod neighbours;
 pub mod plan;
 pub mod sensor_list;
