@@ -1,6 +1,6 @@
 -- Puts made turn by turn: those still to come, and what loading a column comes to.
-use Rattle.std.proofs.Common.{◌≡◌, ℕ, zero, suc, ◌+◌, ◌-◌, ◌≤◌, Bool, true, false, cond, ◌&&◌, eqb, ltb, leb, ◌≢◌, List, [], ◌∷◌, ◌++◌, Ok, Err, Result, sym, refl, ap, ◌∙◌, inl, inr, append_assoc, append-nil, add-one, arith}
-use Rattle.std.proofs.lemmas.Bool.{cases_eq, le-leb, cond-true, cond-false, eq-eqb, ne_eqb}
+use Rattle.std.proofs.Common.{◌≡◌, ℕ, zero, suc, ◌+◌, ◌-◌, ◌<◌, ◌≤◌, Bool, true, false, cond, ◌&&◌, eqb, ltb, leb, ◌≢◌, List, [], ◌∷◌, ◌++◌, Ok, Err, Result, sym, refl, ap, ◌∙◌, inl, inr, append_assoc, append-nil, add-one, arith}
+use Rattle.std.proofs.lemmas.Bool.{cases_eq, le-leb, lt-leb, cond-true, cond-false, eq-eqb, ne_eqb}
 use Rattle.std.proofs.lemmas.Bool.Decides.{nat_tests}
 use Rattle.refusal.specs.declared.Refusal.{Refusal}
 use Rattle.refusal.specs.Numbers.{number_of}
@@ -8,8 +8,8 @@ use Rattle.refusal.specs.Outcomes.{accepted, refused, and_then}
 use Rattle.field.specs.Arithmetic.{Arithmetic}
 use Rattle.matrix.specs.declared.put.Put.{Put}
 use Rattle.matrix.specs.Matrix.{Matrix, Entries, put_at, played}
-use Rattle.matrix.specs.Terms.{Terms, told, left_by, puts_outcome, puts_after}
-use Rattle.matrix.proofs.Puts.{Leads, Comes, puts_outcome-++, puts_after-++, accepted_played}
+use Rattle.matrix.specs.Terms.{Terms, told, left_by, put_outcome, put_after, puts_outcome, puts_after}
+use Rattle.matrix.proofs.Puts.{Leads, Comes, leads_start, leads_by, leads_put, leads_refused, leads_end, puts_outcome-++, puts_after-++, accepted_played}
 use Rattle.complex.specs.Systems.{starting}
 use Rattle.homology.specs.Reduction.{column_puts, loading}
 use Rattle.reduction.specs.Grids.{code_of, codes_of, shaped}
@@ -109,6 +109,24 @@ module _ (R : ℕ) (A : Entries) where
       let long : n + 1 - c ≡ suc (n + 1 - (c + 1)) = omega arith in
       ap (columns_on c) long ∙ ap (λ d. column_puts R A c ++ columns_on d (n + 1 - (c + 1))) (sym (add-one c))
 
+  abbrev rest : ℕ → ℕ → List Put
+  rest c n = columns_on (c + 1) (n + 1 - (c + 1))
+
+  -- a call that loads column c, those before it loaded
+  module _ {t u : Terms} {m n new : Matrix} {c N : ℕ} {r : Result (Unit {0}) Refusal} (l : c ≤ N) (h : Leads t m (loading R A N) n (columns_on c (N + 1 - c))) (same : u ≡ t)
+      (answer : told r ≡ puts_outcome u n (column_puts R A c)) (after : new ≡ puts_after u n (column_puts R A c)) where
+    comes : Comes t n (column_puts R A c) r new
+    comes = record { answer = answer ∙ ap (λ t. puts_outcome t n (column_puts R A c)) same; after = after ∙ ap (λ t. puts_after t n (column_puts R A c)) same }
+
+    pub column_refused : {s : Result (Unit {0}) Refusal} {e x : Refusal} → r ≡ Err e → s ≡ Err x → x ≡ e → Comes t m (loading R A N) s new
+    column_refused {s = s} {e = e} {x = x} is ends equal = leads_run_refused t m n new _ (column_puts R A c) (rest c N) r s e x (leads_by t m n _ _ _ (columns_more c N l) h) comes is ends equal
+
+    pub column_loaded : {v : Unit {0}} → r ≡ Ok v → Leads t m (loading R A N) new (rest c N)
+    column_loaded {v = v} is = leads_run t m n new _ (column_puts R A c) (rest c N) r v (leads_by t m n _ _ _ (columns_more c N l) h) comes is
+
+    pub columns_loaded : {v : Unit {0}} → r ≡ Ok v → c ≡ N → Comes t m (loading R A N) (Ok tt) new
+    columns_loaded is last = let none : N + 1 - (c + 1) ≡ 0 = omega (arith, last) in leads_end t m new _ (rest c N) (column_loaded is) (ap (columns_on (c + 1)) none)
+
 -- equal entries, equal puts
 pub column_same : (n : ℕ) (A B : Entries) (c : ℕ) → ((r : ℕ) → 1 ≤ r → r ≤ n → A r c ≡ B r c) → column_puts n A c ≡ column_puts n B c
 column_same zero A B c h = refl
@@ -174,3 +192,29 @@ module _ (F : Arithmetic) (m : Matrix) (E T : ℕ) where
       let first : leb 1 c ≡ true = le-leb 1 c a in
       column_own T c (omega arith)
       ∙ (λ i. sym (column_codes c a b) i ++ cond (first i && leb c T) (put_at (E + c) c 1 ∷ []) [])
+
+  abbrev own_at : ℕ → Put
+  own_at c = put_at (E + c) c 1
+
+  abbrev own : ℕ → List Put
+  own c = cond (leb c T) (own_at c ∷ []) []
+
+  -- a call that puts the codes, and then one for the own row
+  module _ {t : Terms} {k n : Matrix} {c : ℕ} {r : Result (Unit {0}) Refusal} (inside : (1 ≤ c) × (c ≤ T + 1))
+      (answer : told r ≡ puts_outcome t k (column_puts E (codes_of F m) c)) (after : n ≡ puts_after t k (column_puts E (codes_of F m) c)) where
+    pub codes_refused : {s : Result (Unit {0}) Refusal} {e x : Refusal} → r ≡ Err e → s ≡ Err x → x ≡ e → Comes t k (column_puts (E + T) M c) s n
+    codes_refused {s = s} {e = e} {x = x} is ends equal = leads_run_refused t k k n _ (column_puts E (codes_of F m) c) (own c) r s e x (leads_start t k _ _ (column_whole c inside.0 inside.1)) (record { answer = answer; after = after }) is ends equal
+
+    module _ {v : Unit {0}} (put : r ≡ Ok v) where
+      codes_put : Leads t k (column_puts (E + T) M c) n (own c)
+      codes_put = leads_run t k k n _ (column_puts E (codes_of F m) c) (own c) r v (leads_start t k _ _ (column_whole c inside.0 inside.1)) (record { answer = answer; after = after }) put
+
+      pub own_none : T < c → Comes t k (column_puts (E + T) M c) (Ok tt) n
+      own_none l = leads_end t k n _ (own c) codes_put (cond-false _ _ _ (lt-leb c T l))
+
+      module _ {u : Terms} {new : Matrix} {q : Result (Unit {0}) Refusal} (l : c ≤ T) (same : u ≡ t) (told_q : told q ≡ put_outcome u n (own_at c)) (left : new ≡ put_after u n (own_at c)) where
+        pub own_refused : {s : Result (Unit {0}) Refusal} {e x : Refusal} → q ≡ Err e → s ≡ Err x → x ≡ e → Comes t k (column_puts (E + T) M c) s new
+        own_refused {s = s} {e = e} {x = x} is ends equal = leads_refused t k n new _ (own_at c) [] q s e x (leads_by t k n _ (own c) (own_at c ∷ []) (cond-true _ _ _ (le-leb c T l)) codes_put) (told_q ∙ ap (λ t. put_outcome t n (own_at c)) same) (left ∙ ap (λ t. put_after t n (own_at c)) same) is ends equal
+
+        pub own_loaded : {w : Unit {0}} → q ≡ Ok w → Comes t k (column_puts (E + T) M c) (Ok tt) new
+        own_loaded {w = w} is = leads_end t k new _ [] (leads_put t k n new _ (own_at c) [] q w (leads_by t k n _ (own c) (own_at c ∷ []) (cond-true _ _ _ (le-leb c T l)) codes_put) (told_q ∙ ap (λ t. put_outcome t n (own_at c)) same) (left ∙ ap (λ t. put_after t n (own_at c)) same) is) refl

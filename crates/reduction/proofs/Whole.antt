@@ -4,7 +4,6 @@ use Rattle.refusal.specs.declared.Refusal.{Refusal}
 use Rattle.refusal.specs.Numbers.{number_of}
 use Rattle.refusal.specs.Outcomes.{refused, and_then}
 use Rattle.field.specs.Arithmetic.{Arithmetic, FieldLaws}
-use Rattle.matrix.specs.declared.put.Put.{Put}
 use Rattle.matrix.specs.Matrix.{Matrix, over, played}
 use Rattle.matrix.specs.Terms.{Terms, told, puts_outcome, puts_after}
 use Rattle.matrix.proofs.Puts.{puts_outcome-++, accepted_played}
@@ -13,20 +12,16 @@ use Rattle.homology.specs.declared.kind.Kind.{Kind}
 use Rattle.homology.specs.Kinds.{kind_of, filled_of}
 use Rattle.homology.specs.Linear.{CodedSystem}
 use Rattle.homology.specs.Certificate.{filling_codes, block_codes}
-use Rattle.homology.specs.Reduction.{low, due, course, enough, loading, reduction, all_puts}
+use Rattle.homology.specs.Reduction.{low, due, course, enough, reduction, all_puts}
 use Rattle.homology.proofs.Columns.{starting_codes}
 use Rattle.homology.proofs.Ending.{reduction_ends_lem}
 use Rattle.homology.proofs.Listing.{length_listed}
 use Rattle.homology.proofs.Putting.{loading_loads, starting_outside}
 use Rattle.reduction.specs.Progress.{left, left_outcome, Ready, Onward, Stops}
-use Rattle.reduction.specs.Grids.{shaped}
+use Rattle.reduction.specs.Grids.{shaped, loads}
 use Rattle.reduction.specs.Verdicts.{empty, verdict, Worked}
 use Rattle.reduction.proofs.Likeness.{shaped_coded}
 use Rattle.reduction.proofs.Steps.{ended_matrix, ended_additions, ended_puts}
-
--- the puts that load
-abbrev pub loads : System → List Put
-loads S = loading (S.rows + S.columns) (starting S) (S.columns + 1)
 
 -- what loading a system in the shape begun came to
 pub record Loaded (F : Arithmetic) (S : System) (t : Terms) (m n : Matrix) (r : Result (Unit {0}) Refusal) : Type 0 where

@@ -9,7 +9,8 @@ use field::Field;
 use matrix::store::Store;
 use refusal::Refusal;
 
-// The low of a column that is reduced, and how many additions there were so far.
+// The low of a column that is reduced, and how many additions there were so far. The count is handed on, since a `Reducer` that
+// counted would have to be lent for writing, and each method would have to promise that field, shape and pivots stay.
 #[derive(Clone, Copy)]
 pub(crate) struct Settled {
     pub(crate) low: Option<u32>,

@@ -1,9 +1,8 @@
 // Loading the starting matrix of a system: the codes that a grid holds for it, and the record of each column.
 ghost use Rattle.std.specs.Prelude.{◌≡◌, ◌+◌, ◌<◌, ◌≤◌};
-ghost use Rattle.complex.specs.Systems.{starting};
-ghost use Rattle.homology.specs.Reduction.{column_puts, loading};
+ghost use Rattle.homology.specs.Reduction.{column_puts};
 ghost use Rattle.matrix.specs.Terms.{told, puts_outcome, puts_after};
-ghost use Rattle.reduction.specs.Grids.{code_of, codes_of, shaped};
+ghost use Rattle.reduction.specs.Grids.{code_of, codes_of, system_in, column_loads, loads};
 ghost use Rattle.reduction.specs.Stores.{Stays};
 
 use crate::reducer::Reducer;
@@ -49,8 +48,8 @@ impl<'a, F: Field> Reducer<'a, F> {
         column: u32,
     ) -> Result<(), Refusal>
         requires { (1 ≤ column) × (column ≤ self.now.shape.triangles + 1) }
-        ensures answer { told result ≡ puts_outcome (S.Store.terms store.old) (S.Grid.holds store.old) (column_puts (self.now.shape.edges + self.now.shape.triangles) (starting (shaped (F.Field.arithmetic self.now.field.now) (G.Grid.holds start.now) self.now.shape.edges self.now.shape.triangles)) column) }
-        ensures after { S.Grid.holds store.new ≡ puts_after (S.Store.terms store.old) (S.Grid.holds store.old) (column_puts (self.now.shape.edges + self.now.shape.triangles) (starting (shaped (F.Field.arithmetic self.now.field.now) (G.Grid.holds start.now) self.now.shape.edges self.now.shape.triangles)) column) }
+        ensures answer { told result ≡ puts_outcome (S.Store.terms store.old) (S.Grid.holds store.old) (column_loads (system_in (F.Field.arithmetic self.now.field.now) self.now.shape (G.Grid.holds start.now)) column) }
+        ensures after { S.Grid.holds store.new ≡ puts_after (S.Store.terms store.old) (S.Grid.holds store.old) (column_loads (system_in (F.Field.arithmetic self.now.field.now) self.now.shape (G.Grid.holds start.now)) column) }
         ensures stays { Stays S.Store.terms S.Store.backing store.old store.new }
     {
         self.load_codes(start, store, column)?;
@@ -62,8 +61,8 @@ impl<'a, F: Field> Reducer<'a, F> {
 
     // Puts the starting matrix column by column, rows rising, up to the first put that is refused.
     pub(crate) fn load<G: Grid, S: Store>(&self, start: &G, store: &mut S) -> Result<(), Refusal>
-        ensures answer { told result ≡ puts_outcome (S.Store.terms store.old) (S.Grid.holds store.old) (loading (self.now.shape.edges + self.now.shape.triangles) (starting (shaped (F.Field.arithmetic self.now.field.now) (G.Grid.holds start.now) self.now.shape.edges self.now.shape.triangles)) (self.now.shape.triangles + 1)) }
-        ensures after { S.Grid.holds store.new ≡ puts_after (S.Store.terms store.old) (S.Grid.holds store.old) (loading (self.now.shape.edges + self.now.shape.triangles) (starting (shaped (F.Field.arithmetic self.now.field.now) (G.Grid.holds start.now) self.now.shape.edges self.now.shape.triangles)) (self.now.shape.triangles + 1)) }
+        ensures answer { told result ≡ puts_outcome (S.Store.terms store.old) (S.Grid.holds store.old) (loads (system_in (F.Field.arithmetic self.now.field.now) self.now.shape (G.Grid.holds start.now))) }
+        ensures after { S.Grid.holds store.new ≡ puts_after (S.Store.terms store.old) (S.Grid.holds store.old) (loads (system_in (F.Field.arithmetic self.now.field.now) self.now.shape (G.Grid.holds start.now))) }
         ensures stays { Stays S.Store.terms S.Store.backing store.old store.new }
     {
         for column in 1..=self.shape.triangles + 1 {

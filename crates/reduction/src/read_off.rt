@@ -1,10 +1,10 @@
 // Reading the answer off a reduced matrix: the coefficients of a filling, or the values of a block.
 ghost use Rattle.std.specs.Prelude.{◌≡◌, ℕ, ◌+◌, ◌-◌, ◌<◌, ◌≤◌, ◌++◌, length, drop, cond, ◌==◌};
-ghost use Rattle.homology.specs.Certificate.{filling_codes, block_codes, values, vector, listed};
+ghost use Rattle.homology.specs.Certificate.{values, vector};
 ghost use Rattle.homology.specs.Kinds.{kind_of, filled_of};
 ghost use Rattle.homology.specs.Linear.{total};
-ghost use Rattle.homology.specs.Reduction.{low as lowest};
 ghost use Rattle.reduction.specs.Pivots.{Table};
+ghost use Rattle.reduction.specs.Readings.{target_low, filling_of, block_of};
 
 use crate::reducer::Reducer;
 use crate::rows::NonzeroRows;
@@ -16,7 +16,7 @@ impl<'a, F: Field> Reducer<'a, F> {
     // Writes the coefficients of a filling: what the last column records of each triangle, negated.
     fn write_filling<G: Grid>(&self, reduced: &G, codes: &mut [u16])
         requires { self.now.shape.triangles ≤ length codes.old }
-        ensures { codes.new ≡ filling_codes (F.Field.arithmetic self.now.field.now) self.now.shape.edges self.now.shape.triangles (G.Grid.holds reduced.now).at ++ drop self.now.shape.triangles codes.old }
+        ensures { codes.new ≡ filling_of (F.Field.arithmetic self.now.field.now) self.now.shape (G.Grid.holds reduced.now) ++ drop self.now.shape.triangles codes.old }
     {
         let last = self.shape.triangles + 1;
         // by index, since of a slice that was written through `zip` a proof knows the length alone
@@ -45,7 +45,7 @@ impl<'a, F: Field> Reducer<'a, F> {
     // of the entry where it is the greatest row that is left of the target, and else 0.
     fn block_value<G: Grid>(&self, reduced: &G, top: u32, codes: &[u16], before: u32) -> u16
         requires pivots { Table self.now.shape.edges (G.Grid.holds reduced.now).at self.now.shape.triangles self.now.pivots.owners }
-        requires top { top ≡ lowest self.now.shape.edges (G.Grid.holds reduced.now).at (self.now.shape.triangles + 1) }
+        requires top { top ≡ target_low self.now.shape (G.Grid.holds reduced.now) }
         requires inside { (before < self.now.shape.edges) × (self.now.shape.edges ≤ length codes.now) }
         requires values { (i : ℕ) → 1 ≤ i → i ≤ before → vector codes.now i ≡ values (F.Field.arithmetic self.now.field.now) self.now.shape.edges self.now.shape.triangles (G.Grid.holds reduced.now).at before i }
         ensures { result ≡ values (F.Field.arithmetic self.now.field.now) self.now.shape.edges self.now.shape.triangles (G.Grid.holds reduced.now).at (before + 1) (before + 1) }
@@ -65,9 +65,9 @@ impl<'a, F: Field> Reducer<'a, F> {
     // Writes the values of a block, row by row.
     fn write_block<G: Grid>(&self, reduced: &G, top: u32, codes: &mut [u16])
         requires pivots { Table self.now.shape.edges (G.Grid.holds reduced.now).at self.now.shape.triangles self.now.pivots.owners }
-        requires top { top ≡ lowest self.now.shape.edges (G.Grid.holds reduced.now).at (self.now.shape.triangles + 1) }
+        requires top { top ≡ target_low self.now.shape (G.Grid.holds reduced.now) }
         requires room { self.now.shape.edges ≤ length codes.old }
-        ensures { codes.new ≡ block_codes (F.Field.arithmetic self.now.field.now) self.now.shape.edges self.now.shape.triangles (G.Grid.holds reduced.now).at ++ drop self.now.shape.edges codes.old }
+        ensures { codes.new ≡ block_of (F.Field.arithmetic self.now.field.now) self.now.shape (G.Grid.holds reduced.now) ++ drop self.now.shape.edges codes.old }
     {
         // by index, since each value is worked out from the codes before it
         for before in 0..self.shape.edges {
@@ -79,8 +79,8 @@ impl<'a, F: Field> Reducer<'a, F> {
     pub(crate) fn read_off<G: Grid>(&self, reduced: &G, codes: &mut [u16]) -> Kind
         requires pivots { Table self.now.shape.edges (G.Grid.holds reduced.now).at self.now.shape.triangles self.now.pivots.owners }
         requires room { (self.now.shape.edges ≤ length codes.old) × (self.now.shape.triangles ≤ length codes.old) }
-        ensures kind { result ≡ kind_of (lowest self.now.shape.edges (G.Grid.holds reduced.now).at (self.now.shape.triangles + 1) == 0) }
-        ensures codes { codes.new ≡ cond (filled_of result) (filling_codes (F.Field.arithmetic self.now.field.now) self.now.shape.edges self.now.shape.triangles (G.Grid.holds reduced.now).at ++ drop self.now.shape.triangles codes.old) (block_codes (F.Field.arithmetic self.now.field.now) self.now.shape.edges self.now.shape.triangles (G.Grid.holds reduced.now).at ++ drop self.now.shape.edges codes.old) }
+        ensures kind { result ≡ kind_of (target_low self.now.shape (G.Grid.holds reduced.now) == 0) }
+        ensures codes { codes.new ≡ cond (filled_of result) (filling_of (F.Field.arithmetic self.now.field.now) self.now.shape (G.Grid.holds reduced.now) ++ drop self.now.shape.triangles codes.old) (block_of (F.Field.arithmetic self.now.field.now) self.now.shape (G.Grid.holds reduced.now) ++ drop self.now.shape.edges codes.old) }
     {
         match reduced.last_nonzero(self.shape.triangles + 1, self.shape.edges) {
             None => {

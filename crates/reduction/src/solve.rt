@@ -2,7 +2,7 @@
 ghost use Rattle.std.specs.Prelude.{◌≡◌, ◌≤◌, length};
 ghost use Rattle.complex.specs.Systems.{System, starting_matrix};
 ghost use Rattle.homology.specs.Linear.{CodedSystem};
-ghost use Rattle.reduction.specs.Grids.{system_of, shaped};
+ghost use Rattle.reduction.specs.Grids.{system_of, system_in};
 ghost use Rattle.reduction.specs.Stores.{Stays};
 ghost use Rattle.reduction.specs.Verdicts.{empty, Solves, Works};
 
@@ -31,8 +31,8 @@ fn work<F: Field, G: Grid, S: Store>(
     codes: &mut [u16],
 ) -> Result<Verdict, Refusal>
     requires room { (shape.edges ≤ length codes.old) × (shape.triangles ≤ length codes.old) }
-    requires begun { S.Grid.holds store.old ≡ empty (shaped (F.Field.arithmetic field.now) (G.Grid.holds start.now) shape.edges shape.triangles) }
-    ensures works { Works (F.Field.arithmetic field.now) (shaped (F.Field.arithmetic field.now) (G.Grid.holds start.now) shape.edges shape.triangles) (S.Store.terms store.old) codes.old codes.new result }
+    requires begun { S.Grid.holds store.old ≡ empty (system_in (F.Field.arithmetic field.now) shape (G.Grid.holds start.now)) }
+    ensures works { Works (F.Field.arithmetic field.now) (system_in (F.Field.arithmetic field.now) shape (G.Grid.holds start.now)) (S.Store.terms store.old) codes.old codes.new result }
     ensures stays { Stays S.Store.terms S.Store.backing store.old store.new }
 {
     let mut reducer = Reducer {
