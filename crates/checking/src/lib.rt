@@ -37,8 +37,8 @@ pub fn check<F: Field>(
     ensures { outcome (λ yes. yes) result ≡ checked (survey_of survey.now) (set_of on.now) (F.arithmetic field.now) claim codes.now }
 {
     // tables of fixed size with a count beside each, since there is no heap here
-    let mut edges = [Edge { a: 0, b: 0 }; 512];
-    let mut triangles = [Triangle { a: 0, b: 0, c: 0 }; 1024];
+    let mut edges = [Edge::default(); 512];
+    let mut triangles = [Triangle::default(); 1024];
     let edge_count = list_edges(survey, on, &mut edges)?;
     let triangle_count = list_triangles(survey, on, &mut triangles)?;
     let grid = BoundaryGrid::new(

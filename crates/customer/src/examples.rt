@@ -1,4 +1,4 @@
-// One generic function at four fields: a row of codes plus twice, or x times, another. Each example calls it itself, as a customer
+// One generic function at four fields: a row of codes plus once, twice or x times another. Each example calls it itself, as a customer
 // would; one more generic function between would only hide that.
 ghost use Rattle.std.specs.Prelude.{◌≡◌, [], ◌∷◌, Ok};
 

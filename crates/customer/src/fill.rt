@@ -1,4 +1,5 @@
 // One generic function that fills any store, and what it does in a dense store of each width and in a customer's.
+// Shape and puts are told as plain arguments, as `begin` and `put_all` take them.
 ghost use Rattle.std.specs.Prelude.{◌≡◌, length};
 ghost use Rattle.refusal.specs.Outcomes.{outcome, and_then};
 ghost use Rattle.matrix.specs.Terms.{told};

@@ -41,10 +41,7 @@ impl<'a, R: ShapeRule> Shaped<'a, R> {
         ensures terms { shaped_terms R.takes (length result.codes.now) ≡ shaped_terms R.takes (length codes.old) }
     {
         Shaped {
-            shape: Shape {
-                rows: 0,
-                columns: 0,
-            },
+            shape: Shape::default(),
             used: 0,
             codes,
             rule: PhantomData,

@@ -24,8 +24,8 @@ pub fn show_complex(rt: &HostRuntime, roster: &Roster) -> Result<(), Fault> {
     let survey = roster.survey();
     let e = survey.edges_among(&on);
     let t = survey.triangles_among(&on);
-    let mut edges = vec![in rt.alloc(); Edge { a: 0, b: 0 }; e as usize]?;
-    let mut triangles = vec![in rt.alloc(); Triangle { a: 0, b: 0, c: 0 }; t as usize]?;
+    let mut edges = vec![in rt.alloc(); Edge::default(); e as usize]?;
+    let mut triangles = vec![in rt.alloc(); Triangle::default(); t as usize]?;
     list_edges(survey, &on, &mut edges)?;
     list_triangles(survey, &on, &mut triangles)?;
     println!(rt; "E {e} T {t}")?;

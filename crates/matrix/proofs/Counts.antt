@@ -1,5 +1,5 @@
 -- How a put changes the number of nonzero entries.
-use Rattle.std.proofs.Common.{◌≡◌, ℕ, zero, suc, ◌+◌, ◌*◌, ◌<◌, ◌≤◌, Bool, true, false, cond, ◌&&◌, eqb, refl, ap, ⊎_elim, mul-suc, arith}
+use Rattle.std.proofs.Common.{◌≡◌, ℕ, zero, suc, ◌+◌, ◌*◌, ◌<◌, ◌≤◌, Bool, true, false, cond, ◌&&◌, eqb, refl, sym, ap, ◌∙◌, ⊎_elim, mul-suc, arith}
 use mathlib.Core.Path.{fun_ext}
 use Rattle.std.proofs.lemmas.Bool.{eq-eqb, ne_eqb, cases_eq, cond-true, cond-false, and_parts, leb-true}
 use Rattle.std.proofs.lemmas.Bool.Decides.{nat_tests}
@@ -113,6 +113,9 @@ tally_2_none f n (suc k) h = omega (arith, tally_2_none f n k h, tally_none (λ 
 pub count_blank : (n k : ℕ) → count (blank n k) ≡ 0
 count_blank n k = tally_2_none (λ _ _. 0) n k (λ r c. refl)
 
-pub count_empty : (f : ℕ → ℕ → ℕ) → tally_2 f 0 0 ≡ 0
+count_empty : (f : ℕ → ℕ → ℕ) → tally_2 f 0 0 ≡ 0
 unfolding tally_2
 count_empty f = refl
+
+pub count_none : (m : Matrix) → m.rows ≡ 0 → m.columns ≡ 0 → 0 ≡ count m
+count_none m r c = sym (ap (tally_2 m.at m.rows) c ∙ ap (λ n. tally_2 m.at n 0) r ∙ count_empty m.at)

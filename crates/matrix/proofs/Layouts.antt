@@ -48,6 +48,10 @@ place_lt n k i j h =
     let r : i - 1 < n = omega (arith, h) in
     omega (arith, digits_lt {q = j - 1} {m = k} {r = i - 1} {c = n} q r, mul_comm n k)
 
+-- the place that code finds lies in memory that holds the shape
+pub place_below : (n k i j : ℕ) {p s : ℕ} → Some p ≡ place_in n k i j → n * k ≤ s → p < s
+place_below n k i j {p} e fits = let f = place_some n k i j p e in omega (arith, f.1, place_lt n k i j f.0, fits)
+
 pub place_apart : (n k i j r c : ℕ) → In n k i j → In n k r c → place n r c ≡ place n i j → (r ≡ i) × (c ≡ j)
 place_apart n k i j r c h g e =
     let a : i - 1 < n = omega (arith, h) in
@@ -113,8 +117,8 @@ pub record Changed (n k : ℕ) (f g : ℕ → ℕ) (i j v p : ℕ) : Type 0 wher
   pub places : (q : ℕ) → q < n * k → g q ≡ cond (eqb q p) v (f q)
 
 -- where code found the place
-pub changed_from : (n k : ℕ) (f g : ℕ → ℕ) (i j v p : ℕ) → Some p ≡ place_in n k i j → ((q : ℕ) → q < n * k → g q ≡ cond (eqb q p) v (f q)) → Changed n k f g i j v p
-changed_from n k f g i j v p e h = let s = place_some n k i j p e in record { inside = s.0; at = s.1; places = h }
+pub changed_from : {n k : ℕ} {f g : ℕ → ℕ} {i j v p : ℕ} → Some p ≡ place_in n k i j → ((q : ℕ) → q < n * k → g q ≡ cond (eqb q p) v (f q)) → Changed n k f g i j v p
+changed_from {n} {k} {i = i} {j = j} {p = p} e h = let s = place_some n k i j p e in record { inside = s.0; at = s.1; places = h }
 
 changed_put : (n k : ℕ) (f g : ℕ → ℕ) (i j v p : ℕ) → Changed n k f g i j v p → laid n k g ≡ put_into (laid n k f) (put_at i j v)
 changed_put n k f g i j v p h = laid_put n k f g i j v h.inside (λ q l. h.places q l ∙ ap (λ x. cond (eqb q x) v (f q)) h.at)
@@ -123,14 +127,14 @@ changed_put n k f g i j v p h = laid_put n k f g i j v h.inside (λ q l. h.place
 pub laid_accepts : (t : Terms) (n k : ℕ) (f : ℕ → ℕ) (i j v : ℕ) → limit_of t (laid n k f) ≡ n * k → In n k i j → v < t.bound → put_outcome t (laid n k f) (put_at i j v) ≡ accepted tt
 laid_accepts t n k f i j v limit h code = roomy_put t (laid n k f) (put_at i j v) limit (record { place = in_is n k i j h; code = code })
 
-pub changed_leaves : (t : Terms) (n k : ℕ) (f g : ℕ → ℕ) (i j v p : ℕ) → limit_of t (laid n k f) ≡ n * k → v < t.bound → Changed n k f g i j v p → laid n k g ≡ put_after t (laid n k f) (put_at i j v)
-changed_leaves t n k f g i j v p limit code h =
+pub changed_leaves : (t : Terms) {n k : ℕ} {f g : ℕ → ℕ} {i j v p : ℕ} → limit_of t (laid n k f) ≡ n * k → v < t.bound → Changed n k f g i j v p → laid n k g ≡ put_after t (laid n k f) (put_at i j v)
+changed_leaves t {n} {k} {f} {g} {i} {j} {v} {p} limit code h =
     put_done t (laid n k f) (laid n k g) (put_at i j v) (laid_accepts t n k f i j v limit h.inside code) (changed_put n k f g i j v p h)
 
 -- the count that code keeps: the new code counted, and no more the old
-pub changed_counts : (n k : ℕ) (f g : ℕ → ℕ) (i j v p used new old : ℕ) → Changed n k f g i j v p → used ≡ count (laid n k f) → new ≡ one_if_not_zero v → old ≡ one_if_not_zero (f p)
+pub changed_counts : {n k : ℕ} {f g : ℕ → ℕ} {i j v p used new old : ℕ} → Changed n k f g i j v p → used ≡ count (laid n k f) → new ≡ one_if_not_zero v → old ≡ one_if_not_zero (f p)
     → (old ≤ used + new) × (used + new - old ≡ count (laid n k g))
-changed_counts n k f g i j v p used new old h e is was =
+changed_counts {n} {k} {f} {g} {i} {j} {v} {p} {used} h e is was =
     let there : (laid n k f).at i j ≡ f p = laid_at n k f i j h.inside ∙ ap f (sym h.at) in
     let both : count (laid n k g) + one_if_not_zero (f p) ≡ used + one_if_not_zero v =
     ap (λ m. count m + one_if_not_zero (f p)) (changed_put n k f g i j v p h)

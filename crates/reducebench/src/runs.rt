@@ -88,12 +88,8 @@ impl<'a, F: Field> Runs<'a, F> {
         let heap = self.rt.alloc();
         let survey = self.survey;
         let on = survey.all();
-        let mut edge_list = vec![in heap; Edge { a: 0, b: 0 }; survey.link_count() as usize]?;
-        let mut triangle_list = vec![in heap; Triangle {
-            a: 0,
-            b: 0,
-            c: 0
-        }; survey.triangle_count() as usize]?;
+        let mut edge_list = vec![in heap; Edge::default(); survey.link_count() as usize]?;
+        let mut triangle_list = vec![in heap; Triangle::default(); survey.triangle_count() as usize]?;
         let edges = list_edges(survey, &on, &mut edge_list)?;
         let triangles = list_triangles(survey, &on, &mut triangle_list)?;
         let mut codes = vec![in heap; 0u16; edges.max(triangles)]?;

@@ -1,13 +1,22 @@
 -- What the width of an entry says of bytes, codes and places.
-use Rattle.std.proofs.Common.{◌≡◌, ℕ, zero, suc, ◌+◌, ◌-◌, ◌*◌, ◌/◌, ◌%◌, ◌^◌, ◌<◌, ◌≤◌, min, List, get_or, sym, ap, ◌∙◌, ⊎_elim, mul_assoc, mul_comm, add-mul, mul-add, arith}
+use Rattle.std.proofs.Common.{◌≡◌, ℕ, zero, suc, ◌+◌, ◌-◌, ◌*◌, ◌/◌, ◌%◌, ◌^◌, ◌<◌, ◌≤◌, min, List, get_or, sym, refl, ap, ◌∙◌, ⊎_elim, mul_assoc, mul_comm, add-mul, mul-add, arith}
 use native.Mathlib.Nat.{zero-div, zero-mod}
-use Rattle.std.proofs.lemmas.Nat.{mul-le, mod_below, div_below, div-add-mod', pow_below}
+use Rattle.std.proofs.lemmas.Nat.{mul-le, mod_below, div_below, div-add-mod'}
 use Rattle.std.proofs.lemmas.Bool.{cases_lt, cases_eq}
+use Rattle.stores.specs.declared.width.EntryWidth.{EntryWidth}
+use Rattle.stores.specs.declared.width.EntryWidth.TheVariants.{One, Two, Four, Eight}
 use Rattle.stores.specs.Packed.{per_byte_of, code_in, code_at, bytes_for}
+use Rattle.stores.specs.Widths.{bits_of}
 
--- a width that is checked
+-- a byte holds whole codes of w bits
 abbrev pub Whole : ℕ → Type 0
 Whole w = w * per_byte_of w ≡ 8
+
+pub whole : (w : EntryWidth) → Whole (bits_of w)
+whole One = refl
+whole Two = refl
+whole Four = refl
+whole Eight = refl
 
 pos_factor : (w k : ℕ) → w * k ≡ 8 → (0 < w) × (0 < k)
 pos_factor zero k e = absurd (omega arith)
@@ -27,15 +36,9 @@ code_room w k h l = omega (arith, mul-le w (k + 1) w (per_byte_of w) (omega arit
 pub bits_le : (w : ℕ) → Whole w → w ≤ 8
 bits_le w h = omega (arith, code_room w 0 h (per_pos w h))
 
-pub bound_le : (w : ℕ) → Whole w → 2 ^ w ≤ 256
-bound_le w h = ⊎_elim (λ (l : w < 8). omega (arith, pow_below w 8 l)) (λ (l : 8 ≤ w). let e : w ≡ 8 = omega (arith, bits_le w h) in omega (arith, ap (λ x. 2 ^ x) e)) (cases_lt w 8)
-
 -- a place before so many bytes' codes lies in one of the bytes
 pub byte_of : (w p n : ℕ) → Whole w → p < n * per_byte_of w → p / per_byte_of w < n
 byte_of w p n h l = div_below p (per_byte_of w) n (per_pos w h) l
-
-pub code_of : (w p : ℕ) → Whole w → w * (p % per_byte_of w) + w ≤ 8
-code_of w p h = code_room w (p % per_byte_of w) h (mod_below p (per_byte_of w) (per_pos w h))
 
 -- an empty byte has codes 0 only
 pub code_in_none : (w k : ℕ) → code_in w 0 k ≡ 0

@@ -4,7 +4,8 @@ ghost use Rattle.matrix.specs.Matrix.{count, blank};
 ghost use Rattle.matrix.specs.Layout.{laid_outside};
 ghost use Rattle.matrix.specs.Terms.{itself};
 ghost use Rattle.stores.specs.Packed.{code_at, per_byte_of, bytes_for};
-ghost use Rattle.stores.specs.Dense.{packed, dense_terms};
+ghost use Rattle.stores.specs.Dense.{matrix_of, terms_of};
+ghost use Rattle.stores.specs.Widths.{bits_of};
 
 use crate::packed::{read, scan, write};
 use crate::width::EntryWidth;
@@ -19,22 +20,19 @@ pub struct Dense<'a> {
     shape: Shape,
     used: u64,
     bytes: &'a mut [u8],
-    ghost fits: { shape.rows * shape.columns ≤ length bytes.now * per_byte_of width.bits },
-    ghost counted: { used ≡ count (packed width.bits shape.rows shape.columns bytes.now) },
+    ghost fits: { shape.rows * shape.columns ≤ length bytes.now * per_byte_of (bits_of width) },
+    ghost counted: { used ≡ count (matrix_of width shape bytes.now) },
 }
 
 impl<'a> Dense<'a> {
     // A store of shape 0 by 0, whatever the bytes hold.
     pub fn new(width: EntryWidth, bytes: &'a mut [u8]) -> Dense<'a>
-        ensures holds { packed result.width.bits result.shape.rows result.shape.columns result.bytes.now ≡ blank 0 0 }
-        ensures terms { dense_terms result.width.bits (length result.bytes.now) ≡ dense_terms width.bits (length bytes.old) }
+        ensures holds { matrix_of result.width result.shape result.bytes.now ≡ blank 0 0 }
+        ensures terms { terms_of result.width result.bytes.now ≡ terms_of width bytes.old }
     {
         Dense {
             width,
-            shape: Shape {
-                rows: 0,
-                columns: 0,
-            },
+            shape: Shape::default(),
             used: 0,
             bytes,
         }
@@ -43,15 +41,15 @@ impl<'a> Dense<'a> {
 
 // The bytes that a shape takes.
 fn bytes_of(width: EntryWidth, shape: Shape) -> u64
-    ensures { result ≡ bytes_for width.bits (shape.rows * shape.columns) }
+    ensures { result ≡ bytes_for (bits_of width) (shape.rows * shape.columns) }
 {
     shape.size().div_ceil(width.per_byte() as u64)
 }
 
 impl<'a> Grid for Dense<'a> {
-    ghost holds = { λ d. packed d.width.bits d.shape.rows d.shape.columns d.bytes.now };
+    ghost holds = { λ d. matrix_of d.width d.shape d.bytes.now };
 
-    ghost outside = { λ d. laid_outside d.shape.rows d.shape.columns (code_at d.width.bits d.bytes.now) };
+    ghost outside = { λ d. laid_outside d.shape.rows d.shape.columns (code_at (bits_of d.width) d.bytes.now) };
 
     fn rows(&self) -> u32 {
         self.shape.rows
@@ -79,7 +77,7 @@ impl<'a> Grid for Dense<'a> {
 }
 
 impl<'a> Store for Dense<'a> {
-    ghost terms = { λ d. dense_terms d.width.bits (length d.bytes.now) };
+    ghost terms = { λ d. terms_of d.width d.bytes.now };
 
     ghost backing = { λ d. itself };
 
@@ -100,6 +98,7 @@ impl<'a> Store for Dense<'a> {
         if code as u32 >= self.width.bound() {
             return Err(Refusal::CodeTooLarge);
         }
+        // by a name of their own: through `self.bytes` the count would have to be right before it is brought up to date
         let bytes = &mut *self.bytes;
         let old = read(bytes, self.width, at) as u16;
         write(bytes, self.width, at, code as u8);

@@ -1,13 +1,14 @@
-// Codes of a few bits each in bytes that are lent.
+// Codes of a few bits each in bytes that are lent. Bytes and width stay two arguments: a struct of both would be made for one call each time.
 ghost use Rattle.std.specs.Prelude.{◌≡◌, ℕ, ◌+◌, ◌-◌, ◌*◌, ◌/◌, ◌%◌, ◌^◌, ◌<◌, ◌≤◌, length, if◌then◌else◌, nat_eq, slice_index};
 ghost use Rattle.stores.specs.Packed.{code_in, code_at, per_byte_of, Scanned, replaced};
+ghost use Rattle.stores.specs.Widths.{bits_of};
 
 use crate::width::EntryWidth;
 
 // The code at a place.
 pub(crate) fn read(bytes: &[u8], width: EntryWidth, place: usize) -> u8
-    requires { place < length bytes.now * per_byte_of width.bits }
-    ensures { result ≡ code_at width.bits bytes.now place }
+    requires { place < length bytes.now * per_byte_of (bits_of width) }
+    ensures { result ≡ code_at (bits_of width) bytes.now place }
 {
     let per = width.per_byte() as usize;
     code_of(bytes[place / per], width.bits(), (place % per) as u32)
@@ -15,8 +16,8 @@ pub(crate) fn read(bytes: &[u8], width: EntryWidth, place: usize) -> u8
 
 // Sets the code at a place.
 pub(crate) fn write(bytes: &mut [u8], width: EntryWidth, place: usize, code: u8)
-    requires { (place < length bytes.old * per_byte_of width.bits) × (code < 2 ^ width.bits) }
-    ensures { (q : ℕ) → code_at width.bits bytes.new q ≡ (if nat_eq q place then code else code_at width.bits bytes.old q) }
+    requires { (place < length bytes.old * per_byte_of (bits_of width)) × (code < 2 ^ bits_of width) }
+    ensures { (q : ℕ) → code_at (bits_of width) bytes.new q ≡ (if nat_eq q place then code else code_at (bits_of width) bytes.old q) }
 {
     let per = width.per_byte() as usize;
     let at = place / per;
@@ -34,8 +35,8 @@ fn first_nonzero(bytes: &[u8], start: usize, end: usize) -> Option<usize>
 
 // The first place from `start` on, before `end`, whose code is not 0. It passes empty bytes whole.
 pub(crate) fn scan(bytes: &[u8], width: EntryWidth, start: usize, end: usize) -> Option<usize>
-    requires { end ≤ length bytes.now * per_byte_of width.bits }
-    ensures { Scanned (code_at width.bits bytes.now) start end result }
+    requires { end ≤ length bytes.now * per_byte_of (bits_of width) }
+    ensures { Scanned (code_at (bits_of width) bytes.now) start end result }
 {
     let per = width.per_byte() as usize;
     // A `while`, since it goes on by a place or by whole bytes.

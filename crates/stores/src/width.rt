@@ -1,57 +1,62 @@
 // How many bits an entry has.
-ghost use Rattle.std.specs.Prelude.{◌≡◌, ◌*◌, ◌^◌};
+ghost use Rattle.std.specs.Prelude.{◌≡◌, ◌^◌};
 ghost use Rattle.refusal.specs.Outcomes.{outcome};
 ghost use Rattle.stores.specs.Packed.{entry_width, per_byte_of};
+ghost use Rattle.stores.specs.Widths.{bits_of};
 
 use refusal::Refusal;
 
-// A number and no enum of four, since codes are shifted and bytes divided by it.
-#[derive(Clone, Copy)]
-pub struct EntryWidth {
-    bits: u32,
-    ghost whole: { bits * per_byte_of bits ≡ 8 },
+// So many bits that a byte holds whole entries.
+#[derive(Clone, Copy, Debug, PartialEq, Eq)]
+pub enum EntryWidth {
+    One = 1,
+    Two = 2,
+    Four = 4,
+    Eight = 8,
 }
 
 impl TryFrom<u32> for EntryWidth {
     type Error = Refusal;
 
-    ghost try_from_gives = { λ w r. outcome (λ e. e.bits) r ≡ entry_width w };
+    ghost try_from_gives = { λ w r. outcome bits_of r ≡ entry_width w };
 
     fn try_from(w: u32) -> Result<Self, Refusal> {
-        if matches!(w, 1 | 2 | 4 | 8) {
-            Ok(EntryWidth { bits: w })
-        } else {
-            Err(Refusal::EntryWidth)
+        match w {
+            1 => Ok(EntryWidth::One),
+            2 => Ok(EntryWidth::Two),
+            4 => Ok(EntryWidth::Four),
+            8 => Ok(EntryWidth::Eight),
+            _ => Err(Refusal::EntryWidth),
         }
     }
 }
 
 impl EntryWidth {
-    // A width of 1, 2, 4 or 8 bits.
+    // A width of 1, 2, 4 or 8 bits: `try_from` by its older name.
     pub fn check(w: u32) -> Result<EntryWidth, Refusal>
-        ensures { outcome (λ e. e.bits) result ≡ entry_width w }
+        ensures { outcome bits_of result ≡ entry_width w }
     {
         EntryWidth::try_from(w)
     }
 
     // The number of bits.
     pub(crate) fn bits(self) -> u32
-        ensures { result ≡ self.bits }
+        ensures { result ≡ bits_of self }
     {
-        self.bits
+        self as u32
     }
 
     // What the codes of so many bits are below.
     pub(crate) fn bound(self) -> u32
-        ensures { result ≡ 2 ^ self.bits }
+        ensures { result ≡ 2 ^ bits_of self }
     {
-        1 << self.bits
+        1 << self.bits()
     }
 
     // The number of codes in a byte.
     pub(crate) fn per_byte(self) -> u32
-        ensures { result ≡ per_byte_of self.bits }
+        ensures { result ≡ per_byte_of (bits_of self) }
     {
-        8 / self.bits
+        8 / self.bits()
     }
 }

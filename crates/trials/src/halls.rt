@@ -24,8 +24,8 @@ impl Hub {
     pub fn listed() -> Result<Hub, Refusal> {
         let (survey, _) = read_survey(HUB)?;
         let on = survey.all();
-        let mut edges = [Edge { a: 0, b: 0 }; 8];
-        let mut triangles = [Triangle { a: 0, b: 0, c: 0 }; 4];
+        let mut edges = [Edge::default(); 8];
+        let mut triangles = [Triangle::default(); 4];
         let edge_count = list_edges(&survey, &on, &mut edges)?;
         let triangle_count = list_triangles(&survey, &on, &mut triangles)?;
         Ok(Hub {
