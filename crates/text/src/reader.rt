@@ -53,7 +53,8 @@ impl<'a> Reader<'a> {
         Some(token)
     }
 
-    // The letter.
+    // The letter, one of the four marks: a token keeps the character that it was told apart by, and `requires` says which
+    // characters are a token by themselves.
     pub(crate) fn letter(&mut self, letter: char) -> Result<(), Refusal>
         requires { IsMark letter }
         ensures { outcome (λ _. self.new) result ≡ formed (byte letter self.old) }
