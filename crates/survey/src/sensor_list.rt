@@ -6,7 +6,7 @@ use crate::limits::MAX_FENCE;
 use std::marker::Model;
 
 // There is no heap below the console, so the numbers are the first `len` of a table's places. A clause sees their list.
-// The library's `ArrayVec` would do, but every crate here would rest on it for the sake of these four functions.
+// The library's `ArrayVec` would do, but every crate above would rest on it for the sake of these four functions.
 #[derive(Drop)]
 pub struct SensorList {
     table: [u16; MAX_FENCE],
