@@ -8,6 +8,7 @@ use survey::neighbours::Neighbours;
 use survey::plan::Survey;
 use survey::sensor_set::SensorSet;
 
+// Made here, and as other tests make such surveys, since tests are no library.
 fn nineteen() -> Result<Survey, Refusal> {
     let mut neighbours = Neighbours::new(19)?;
     for x in 1..=19u16 {

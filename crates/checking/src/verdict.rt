@@ -9,7 +9,8 @@ use homology::kind::Kind;
 use matrix::grid::Grid;
 use refusal::Refusal;
 
-// How many codes a claim takes where there are so many rows and columns.
+// How many codes a claim takes where there are so many rows and columns. The reduction's bench has the same two cases, and rests on no
+// check of claims.
 fn size(claim: Kind, rows: u32, columns: u32) -> u32
     ensures { result ≡ size_of claim rows columns }
 {

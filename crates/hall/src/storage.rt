@@ -34,6 +34,8 @@ impl FromStr for Kind {
     }
 }
 
+// The commands on a store are functions of it and not methods, since each store is a type of its own.
+
 // Begins the store with so many rows and columns.
 pub fn begin<S: Store>(rt: &HostRuntime, store: &mut S, rest: &str) -> Result<(), Fault> {
     let (rows, columns) = two_numbers(rest, u32::MAX)?;

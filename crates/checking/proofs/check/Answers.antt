@@ -34,10 +34,10 @@ returns g c =
     let thirds : length (triangles s everyone) ≤ 1024 = omega arith in
     let edge_list = c.in_ok-edge_count.ensures in
     let triangle_list = c.in_ok-triangle_count.ensures in
-    let rows = all_counted (edges s on) (replicate 512 no_edge) (few_edges s on links) _ edge_list.answer in
-    let columns = all_counted (triangles s on) (replicate 1024 no_triangle) (few_triangles s on thirds) _ triangle_list.answer in
-    let es = listed_take (edges s on) (replicate 512 no_edge) _ _ edge_list.answer edge_list.after in
-    let ts = listed_take (triangles s on) (replicate 1024 no_triangle) _ _ triangle_list.answer triangle_list.after in
+    let rows = all_counted (edges s on) (replicate 512 c.default-edges.result) (few_edges s on links) _ edge_list.answer in
+    let columns = all_counted (triangles s on) (replicate 1024 c.default-triangles.result) (few_triangles s on thirds) _ triangle_list.answer in
+    let es = listed_take (edges s on) (replicate 512 c.default-edges.result) _ _ edge_list.answer edge_list.after in
+    let ts = listed_take (triangles s on) (replicate 1024 c.default-triangles.result) _ _ triangle_list.answer triangle_list.after in
     let holds = starting_usable s on F links thirds _ _ _ _ _ es ts c.fence.ensures c.negative.ensures c.new-grid.ensures.holds in
     c.judge.ensures
     ∙ ap (λ m. verdict F (system_in c.in_ok-edge_count.edge_count c.in_ok-triangle_count.triangle_count m) c.args.claim c.args.codes.now) holds
