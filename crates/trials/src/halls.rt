@@ -21,7 +21,7 @@ pub struct Hub {
 }
 
 impl Hub {
-    pub fn listed() -> Result<Hub, Refusal> {
+    pub(crate) fn listed() -> Result<Hub, Refusal> {
         let (survey, _) = read_survey(HUB)?;
         let on = survey.all();
         let mut edges = [Edge::default(); 8];
@@ -38,7 +38,7 @@ impl Hub {
     }
 
     // The starting matrix over GF(3), where -1 is 2.
-    pub fn grid(&self) -> BoundaryGrid<'_, '_, '_> {
+    pub(crate) fn grid(&self) -> BoundaryGrid<'_, '_, '_> {
         BoundaryGrid::new(&self.edges, &self.triangles, self.survey.fence(), 2)
     }
 }
