@@ -57,7 +57,7 @@ impl<'a> Grid for Sparse<'a> {
     }
 
     fn entry(&self, row: u32, column: u32) -> u16 {
-        match self.spot(row, column) {
+        match self.spot_within(row, column) {
             Some(spot) => self.code(spot),
             None => 0,
         }
@@ -96,9 +96,9 @@ impl<'a> Store for Sparse<'a> {
     }
 
     fn put(&mut self, row: u32, column: u32, code: u16) -> Result<(), Refusal> {
-        match self.spot(row, column) {
-            Some(spot) if row <= self.shape.rows => self.set(spot, code),
-            _ => Err(Refusal::OutsideShape),
+        match self.spot_within(row, column) {
+            Some(spot) => self.set(spot, code),
+            None => Err(Refusal::OutsideShape),
         }
     }
 

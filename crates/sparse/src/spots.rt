@@ -2,7 +2,7 @@
 ghost use Rattle.std.specs.Prelude.{◌≡◌, ◌-◌, ◌<◌, ◌≤◌, length, ◌≢◌};
 ghost use Rattle.sparse.specs.Cells.{next_at};
 ghost use Rattle.sparse.specs.Chains.{Leads, Stands, row_of};
-ghost use Rattle.sparse.specs.States.{cells_of, entry_at, Sought, Located};
+ghost use Rattle.sparse.specs.States.{cells_of, entry_at, Sought, Located, Placed};
 
 use crate::cell::Cell;
 use crate::chains::{Spot, cell_at, next_of, seek};
@@ -16,7 +16,18 @@ impl<'a> Sparse<'a> {
         self.spot_after(row, column, 0)
     }
 
-    // The same, where the walk begins after a link of the column, and at its head where that is 0, as a spot's `before` may be.
+    // The spot of a place of the shape, none outside it. The row is tested first: for one past the last, a walk would go along the
+    // whole chain.
+    pub(crate) fn spot_within(&self, row: u32, column: u32) -> Option<Spot>
+        ensures { Placed self.now row column result }
+    {
+        if row > self.shape.rows {
+            return None;
+        }
+        self.spot(row, column)
+    }
+
+    // The same as `spot`, where the walk begins after a link of the column, and at its head where that is 0, as a spot's `before` may be.
     pub(crate) fn spot_after(&self, row: u32, column: u32, from: u16) -> Option<Spot>
         requires stands { Stands (cells_of self.now) column from }
         requires below { (row ≢ 0) → row_of (cells_of self.now) from < row }
