@@ -1,5 +1,5 @@
 // Where the entries of a sparse store stand in the chains of their columns.
-ghost use Rattle.std.specs.Prelude.{◌≡◌, ◌-◌, ◌<◌, ◌≤◌, length, ◌≢◌};
+ghost use Rattle.std.specs.Prelude.{◌≡◌, ◌-◌, ◌<◌, ◌≤◌, length};
 ghost use Rattle.sparse.specs.Cells.{next_at};
 ghost use Rattle.sparse.specs.Chains.{Leads, Stands, row_of};
 ghost use Rattle.sparse.specs.States.{cells_of, entry_at, Sought, Located, Placed};
