@@ -1,5 +1,5 @@
 -- A multiple of one column added to another by a walk along both chains.
-use Rattle.std.proofs.Common.{◌≡◌, ◌≢◌, ℕ, ◌-◌, ◌<◌, ◌≤◌, cond, eqb, List, Ok, Err, Result, sym, refl, ap, subst, ◌∙◌, ⊎_elim, arith}
+use Rattle.std.proofs.Common.{◌≡◌, ◌≢◌, ℕ, ◌-◌, ◌<◌, ◌≤◌, cond, eqb, List, length, Ok, Err, Result, sym, refl, ap, subst, ◌∙◌, ⊎_elim, arith}
 use Rattle.std.proofs.lemmas.Bool.{cases_eq, cond-true, cond-false, eq-eqb, ne_eqb}
 use Rattle.refusal.specs.declared.Refusal.{Refusal}
 use Rattle.refusal.specs.declared.Refusal.TheVariants.{OutsideShape}
@@ -19,7 +19,7 @@ use Rattle.sparse.specs.Puts.{Kept}
 use Rattle.sparse.specs.declared.chains.Spot.{Spot}
 use Rattle.sparse.specs.declared.sparse.Sparse.{Sparse}
 use Rattle.sparse.specs.States.{cells_of, heads_of, entry_at, matrix_of, terms_of, Located, Inside, Stays}
-use Rattle.sparse.proofs.Rows.{row_of_none, row_of_some}
+use Rattle.sparse.proofs.Rows.{row_of_none, row_of_some, used_lt}
 use Rattle.sparse.proofs.Found.{found_none}
 use Rattle.sparse.proofs.Readings.{found_here, held_in, held_none, held_past}
 use Rattle.sparse.proofs.Walks.{follows_by, next_follows}
@@ -103,6 +103,10 @@ module _ (F : Arithmetic) (k from to : ℕ) where
     none_between : (i : ℕ) → r < i → (link ≢ 0 → i < row_at (cells_of s) (link - 1)) → (matrix_of s).at i from ≡ 0
     none_between i l h = held_none s.shape.rows s.shape.columns (cells_of s) i from (λ _ _. found_none (cells_of s) i from (λ q e f.
         let n = g.follows.1 q f (omega arith) in omega (arith, n.1, h n.0)))
+
+    -- the link is one of the store
+    pub link_to : link ≤ length (cells_of s)
+    link_to = ⊎_elim (λ (z : link ≡ 0). omega arith) (λ (d : link ≢ 0). omega (arith, used_lt (cells_of s) (link - 1) (omega (arith, (g.follows.0 d).1)))) (cases_eq link 0)
 
     -- no row is left
     pub merge_end : link ≡ 0 → Comes t m (adding F k from to m.at m.rows) (Ok tt) (matrix_of s)

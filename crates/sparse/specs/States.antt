@@ -45,6 +45,11 @@ pub record Inside (s : Sparse) (p : Spot) : Type 0 where
   pub row_to : p.row ≤ s.shape.rows
   pub located : Located s p
 
+-- what is found for a place: its spot, or that it lies outside the shape
+abbrev pub Placed : Sparse → ℕ → ℕ → Option Spot → Type 0
+Placed s r c None = 1 ≤ r → r ≤ s.shape.rows → 1 ≤ c → s.shape.columns < c
+Placed s r c (Some p) = (p.row ≡ r) × (p.column ≡ c) × Inside s p
+
 abbrev pub entry_at : Sparse → Spot → ℕ
 entry_at s p = (matrix_of s).at p.row p.column
 

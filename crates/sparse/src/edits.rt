@@ -23,19 +23,19 @@ impl<'a> Sparse<'a> {
         ensures { Taken (cells_of self.now) self.now.spare result.0 result.1 }
     {
         let Spare { free, fresh } = self.spare;
-        match self.cell(free) {
-            Some(cell) => (
-                free,
-                Spare {
-                    free: cell.next,
-                    fresh,
-                },
-            ),
+        match free.checked_sub(1) {
             None => (
                 fresh + 1,
                 Spare {
-                    free: 0,
+                    free,
                     fresh: fresh + 1,
+                },
+            ),
+            Some(place) => (
+                free,
+                Spare {
+                    free: self.cells[usize::from(place)].next,
+                    fresh,
                 },
             ),
         }
@@ -58,7 +58,9 @@ impl<'a> Sparse<'a> {
         };
         edit(self.cells, self.heads, spot, link, cell, link);
         self.used += 1;
-        self.spare = spare;
+        // Field by field: as one value, the two would be packed at each put.
+        self.spare.free = spare.free;
+        self.spare.fresh = spare.fresh;
     }
 
     // Takes the cell of an entry out of use.
@@ -87,15 +89,16 @@ impl<'a> Sparse<'a> {
         recode(self.cells, spot.at, code);
     }
 
-    // Sets the entry of a spot. Inlined, since each step of an addition comes to it.
+    // Sets the entry of a spot, which is `old` so far. Inlined, since each step of an addition comes to it.
     #[inline(always)]
-    pub(crate) fn set(&mut self, spot: Spot, code: u16) -> Result<(), Refusal>
-        requires { Inside self.old spot }
+    pub(crate) fn set(&mut self, spot: Spot, old: u16, code: u16) -> Result<(), Refusal>
+        requires spot { Inside self.old spot }
+        requires old { old ≡ entry_at self.old spot }
         ensures answer { told result ≡ put_outcome (terms_of self.old) (matrix_of self.old) (put_at spot.row spot.column code) }
         ensures after { matrix_of self.new ≡ put_after (terms_of self.old) (matrix_of self.old) (put_at spot.row spot.column code) }
         ensures stays { Stays self.old self.new spot }
     {
-        match (self.code(spot), code) {
+        match (old, code) {
             (0, 0) => Ok(()),
             (0, _) if self.used as usize >= self.limit() => Err(Refusal::StoreFull),
             (0, _) => {

@@ -57,7 +57,7 @@ impl<'a> Grid for Sparse<'a> {
     }
 
     fn entry(&self, row: u32, column: u32) -> u16 {
-        match self.spot(row, column) {
+        match self.spot_within(row, column) {
             Some(spot) => self.code(spot),
             None => 0,
         }
@@ -95,10 +95,15 @@ impl<'a> Store for Sparse<'a> {
         Ok(())
     }
 
+    // Inlined, since a put at the head of a chain is hardly longer than a call.
+    #[inline(always)]
     fn put(&mut self, row: u32, column: u32, code: u16) -> Result<(), Refusal> {
-        match self.spot(row, column) {
-            Some(spot) if row <= self.shape.rows => self.set(spot, code),
-            _ => Err(Refusal::OutsideShape),
+        match self.spot_within(row, column) {
+            Some(spot) => {
+                let old = self.code(spot);
+                self.set(spot, old, code)
+            }
+            None => Err(Refusal::OutsideShape),
         }
     }
 
@@ -110,7 +115,8 @@ impl<'a> Store for Sparse<'a> {
         CODE_BOUND
     }
 
-    // One walk along both chains: the rows of `from` rise, so that each search in `to` goes on where the last one ended.
+    // One walk along both chains: the rows of `from` rise, so that each search in `to` goes on where the last one ended. Whether the
+    // shape has the column `to` is tested once, before the walk.
     fn add_multiple<F: Field>(
         &mut self,
         field: &F,
@@ -121,15 +127,20 @@ impl<'a> Store for Sparse<'a> {
         let Some(first) = self.spot(1, from) else {
             return Ok(());
         };
+        if to == 0 || to > self.shape.columns {
+            let start = self.cell(first.at);
+            return match start {
+                Some(_) => Err(Refusal::OutsideShape),
+                None => Ok(()),
+            };
+        }
         let mut link = first.at;
         let mut before = 0;
         while let Some(cell) = self.cell(link) {
-            let row = cell.row as u32;
-            let Some(spot) = self.spot_after(row, to, before) else {
-                return Err(Refusal::OutsideShape);
-            };
-            let sum = field.sum(self.code(spot), field.product(factor, cell.code));
-            self.set(spot, sum)?;
+            let spot = self.spot_after(cell.row as u32, to, before);
+            let old = self.code(spot);
+            let sum = field.sum(old, field.product(factor, cell.code));
+            self.set(spot, old, sum)?;
             before = spot.before;
             link = cell.next;
         }
