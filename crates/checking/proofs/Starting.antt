@@ -1,5 +1,5 @@
 -- The equations of a system, read off its starting matrix.
-use Rattle.std.proofs.Common.{◌≡◌, ℕ, suc, ◌+◌, ◌≤◌, cond, ◌&&◌, eqb, ltb, List, length, take, refl, ap, ◌∙◌, ap₂, arith}
+use Rattle.std.proofs.Common.{◌≡◌, ℕ, suc, ◌+◌, ◌≤◌, true, cond, ◌&&◌, eqb, ltb, List, length, take, refl, ap, ◌∙◌, ap₂, arith}
 use Rattle.std.proofs.lemmas.Bool.{and_from, le-leb, cond-true}
 use Rattle.refusal.specs.declared.Refusal.TheVariants.{TooShort, NotACode}
 use Rattle.refusal.specs.Numbers.{number_of}
@@ -11,6 +11,7 @@ use Rattle.survey.specs.declared.edge.Triangle.{Triangle}
 use Rattle.survey.specs.Surveys.{Survey, Sensors, edges, triangles, everyone}
 use Rattle.complex.specs.Boundaries.{listed_system, system}
 use Rattle.complex.specs.Grids.{usable_edges_of, usable_triangles_of}
+use Rattle.complex.specs.Orders.{ascends, edge_less}
 use Rattle.complex.proofs.Ascents.{listings_ascend_lem}
 use Rattle.complex.specs.Systems.{Vector, System, starting, starting_matrix}
 use Rattle.homology.specs.Certificate.{vector}
@@ -47,18 +48,22 @@ module _ (F : Arithmetic) (f : FieldLaws F) (S : System) where
       (cond (has_outside_of F front) (refused (number_of NotACode)) (accepted (has_nonzero_of front && b))))
       (forms_starting claim (vector front))
 
+-- a grid uses lists that ascend and are short enough
+pub starting_usable : (minus code : ℕ) (es : List Edge) (ts : List Triangle) (fence : List ℕ) (m : Matrix)
+    → length es ≤ 512 → length ts ≤ 1024 → ascends edge_less es ≡ true → code ≡ minus
+    → m ≡ starting_matrix (listed_system code (usable_edges_of es) (usable_triangles_of ts) fence) → m ≡ starting_matrix (listed_system minus es ts fence)
+starting_usable minus code es ts fence m short_edges short_triangles rising same holds =
+    holds
+    ∙ ap (λ k. starting_matrix (listed_system k (usable_edges_of es) (usable_triangles_of ts) fence)) same
+    ∙ ap₂ (λ us vs. starting_matrix (listed_system minus us vs fence))
+    (cond-true _ _ _ (and_from _ _ (le-leb _ _ short_edges) rising)) (cond-true _ _ _ (le-leb _ _ short_triangles))
+
 -- a grid of a survey's lists holds its starting matrix
-module _ (s : Survey) (on : Sensors) (F : Arithmetic) (links : length (edges s everyone) ≤ 512) (thirds : length (triangles s everyone) ≤ 1024) where
-  edges_usable : usable_edges_of (edges s on) ≡ edges s on
-  edges_usable = cond-true _ _ _ (and_from _ _ (le-leb _ _ (few_edges s on links)) (listings_ascend_lem s on).0)
-
-  triangles_usable : usable_triangles_of (triangles s on) ≡ triangles s on
-  triangles_usable = cond-true _ _ _ (le-leb _ _ (few_triangles s on thirds))
-
-  pub starting_usable : (es : List Edge) (ts : List Triangle) (fence : List ℕ) (minus : ℕ) (m : Matrix)
-      → es ≡ edges s on → ts ≡ triangles s on → fence ≡ s.fence → minus ≡ F.negative 1
-      → m ≡ starting_matrix (listed_system minus (usable_edges_of es) (usable_triangles_of ts) fence) → m ≡ starting_matrix (system s on F)
-  starting_usable es ts fence minus m e t f n holds =
-      holds
-      ∙ ap₂ (λ es ts. starting_matrix (listed_system minus es ts fence)) (ap usable_edges_of e ∙ edges_usable) (ap usable_triangles_of t ∙ triangles_usable)
-      ∙ ap₂ (λ fence minus. starting_matrix (listed_system minus (edges s on) (triangles s on) fence)) f n
+pub starting_surveyed : (s : Survey) (on : Sensors) (F : Arithmetic) → length (edges s everyone) ≤ 512 → length (triangles s everyone) ≤ 1024
+    → (es : List Edge) (ts : List Triangle) (fence : List ℕ) (minus : ℕ) (m : Matrix)
+    → es ≡ edges s on → ts ≡ triangles s on → fence ≡ s.fence → minus ≡ F.negative 1
+    → m ≡ starting_matrix (listed_system minus (usable_edges_of es) (usable_triangles_of ts) fence) → m ≡ starting_matrix (system s on F)
+starting_surveyed s on F links thirds es ts fence minus m e t f n holds =
+    let of_survey : m ≡ starting_matrix (listed_system minus (usable_edges_of (edges s on)) (usable_triangles_of (triangles s on)) s.fence)
+    = holds ∙ (λ i. starting_matrix (listed_system minus (usable_edges_of (e i)) (usable_triangles_of (t i)) (f i))) in
+    starting_usable (F.negative 1) minus (edges s on) (triangles s on) s.fence m (few_edges s on links) (few_triangles s on thirds) (listings_ascend_lem s on).0 n of_survey

@@ -59,7 +59,8 @@ impl fmt::Display for Fault {
 pub fn show_fault(rt: &HostRuntime, line: &str, fault: Fault) -> io::Result<()> {
     match fault {
         Fault::Io(error) => Err(error),
-        Fault::Unknown => println!(rt; "{fault} {line}"),
+        // in words, since `{fault}` takes a tenth more instructions a line
+        Fault::Unknown => println!(rt; "what? {line}"),
         _ => println!(rt; "{fault}"),
     }
 }
@@ -95,10 +96,11 @@ struct Letters<'a>(&'a Roster);
 impl<'a> fmt::Display for Letters<'a> {
     fn fmt<W: fmt::Write>(&self, f: &mut fmt::Formatter<W>) -> fmt::Result {
         for x in 1..=self.0.survey().count() {
+            // as text, since each letter as a character takes twice the instructions
             match self.0.state(x) {
-                Some(State::Fence) => f.write_char('F')?,
-                Some(State::On) => f.write_char('1')?,
-                Some(State::Off) => f.write_char('0')?,
+                Some(State::Fence) => f.write_str("F")?,
+                Some(State::On) => f.write_str("1")?,
+                Some(State::Off) => f.write_str("0")?,
                 None => {}
             }
         }

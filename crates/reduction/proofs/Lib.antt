@@ -4,6 +4,7 @@ pub mod Walks
 pub mod Steps
 pub mod Tables
 pub mod Targets
+pub mod Shapes
 pub mod Settling
 pub mod Turns
 pub mod Listing

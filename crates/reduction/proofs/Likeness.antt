@@ -1,5 +1,5 @@
 -- Systems with the same shape and the same starting matrix have the same reduction; a grid is read as the system that it starts.
-use Rattle.std.proofs.Common.{◌≡◌, ℕ, ◌+◌, ◌-◌, ◌≤◌, Bool, true, false, cond, ◌&&◌, eqb, ltb, leb, ◌++◌, refl, ap, ◌∙◌, arith}
+use Rattle.std.proofs.Common.{◌≡◌, ℕ, ◌+◌, ◌-◌, ◌≤◌, Bool, true, false, cond, ◌&&◌, eqb, ltb, leb, ◌++◌, refl, ap, ◌∙◌, subst, arith}
 use mathlib.Core.Path.{fun_ext}
 use Rattle.std.proofs.lemmas.Bool.{cond-true, cond_both, lt-ltb, ltb-true, leb-true, and_parts}
 use Rattle.std.proofs.lemmas.Bool.Decides.{nat_tests}
@@ -20,6 +20,9 @@ pub record Alike (S U : System) : Type 0 where
   pub rows : S.rows ≡ U.rows
   pub columns : S.columns ≡ U.columns
   pub entries : starting S ≡ starting U
+
+pub alike_itself : (S : System) → Alike S S
+alike_itself S = record { rows = refl; columns = refl; entries = refl }
 
 pub alike_on : (S U V : System) → Alike S U → Alike U V → Alike S V
 alike_on S U V h k = record { rows = h.rows ∙ k.rows; columns = h.columns ∙ k.columns; entries = h.entries ∙ k.entries }
@@ -89,5 +92,8 @@ module _ (F : Arithmetic) (f : FieldLaws F) where
     read_alike = record { rows = same_height; columns = same_width; entries = fun_ext (λ r. fun_ext (λ c. entry_same r c)) }
 
 -- The system of a grid's own shape is the one that it is read as.
-pub shaped_is : (F : Arithmetic) (m : Matrix) (E T : ℕ) → E ≡ height_of m → T ≡ width_of m → Alike (shaped F m E T) (system_of F m)
-shaped_is F m E T p q = record { rows = p; columns = q; entries = λ i. starting (shaped F m (p i) (q i)) }
+pub shaped_is : (F : Arithmetic) (m : Matrix) (E T : ℕ) → E ≡ height_of m → T ≡ width_of m → shaped F m E T ≡ system_of F m
+shaped_is F m E T p q = λ i. shaped F m (p i) (q i)
+
+pub shaped_alike : (F : Arithmetic) (m : Matrix) (E T : ℕ) → E ≡ height_of m → T ≡ width_of m → Alike (shaped F m E T) (system_of F m)
+shaped_alike F m E T p q = subst (Alike (shaped F m E T)) (shaped_is F m E T p q) (alike_itself (shaped F m E T))

@@ -22,7 +22,7 @@ use Rattle.homology.proofs.Room.{peak_refuses_lem}
 use Rattle.reduction.specs.declared.solve.Verdict.{Verdict}
 use Rattle.reduction.specs.Grids.{shaped, system_of, height_of, width_of}
 use Rattle.reduction.specs.Verdicts.{empty, small, verdict, answer_codes, solving, codes_after, store_after, Published, Solves, Worked, Works}
-use Rattle.reduction.proofs.Likeness.{Alike, shaped_coded, shaped_is, read_alike, alike_on, empty_alike, puts_alike, verdict_alike, codes_alike}
+use Rattle.reduction.proofs.Likeness.{Alike, shaped_coded, shaped_alike, read_alike, alike_on, empty_alike, puts_alike, verdict_alike, codes_alike}
 
 same_refusal : {j k : ℕ} → ◌≡◌ {A = Outcome (Unit {0})} (refused j) (refused k) → j ≡ k
 same_refusal e = cc
@@ -132,10 +132,10 @@ module _ (F : Arithmetic) (f : FieldLaws F) (start : Matrix) (t : Terms) (old : 
   -- what solving promises of it, where that shape is the grid's
   module _ (p : E ≡ height_of start) (q : T ≡ width_of start) (r : Result Verdict Refusal) (new : List ℕ) (n : Matrix) (way : Way r new n) where
     pub way_itself : Solves F (system_of F start) t old m r new n
-    way_itself = way (system_of F start) (shaped_coded F f start (height_of start) (width_of start)) (shaped_is F start E T p q)
+    way_itself = way (system_of F start) (shaped_coded F f start (height_of start) (width_of start)) (shaped_alike F start E T p q)
 
     pub way_systems : (U : System) → CodedSystem F U → start ≡ starting_matrix U → Solves F U t old m r new n
-    way_systems U coded is = way U coded (alike_on (shaped F start E T) (system_of F start) U (shaped_is F start E T p q) (read_alike F f start U coded is))
+    way_systems U coded is = way U coded (alike_on (shaped F start E T) (system_of F start) U (shaped_alike F start E T p q) (read_alike F f start U coded is))
 
   pub way_short : length old < max E T → Way (Err TooShort) old m
   way_short l U coded h = solves_short F f U coded t old m (lt-leb (max U.rows U.columns) (length old) (omega (arith, h.rows, h.columns)))

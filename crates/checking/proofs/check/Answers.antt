@@ -8,7 +8,7 @@ use Rattle.complex.proofs.Listed.{listed_take}
 use Rattle.complex.specs.Systems.{starting_matrix}
 use Rattle.checking.specs.Claims.{verdict}
 use Rattle.checking.specs.Equations.{system_in}
-use Rattle.checking.proofs.Starting.{starting_usable, verdict_starting}
+use Rattle.checking.proofs.Starting.{starting_surveyed, verdict_starting}
 use Rattle.checking.proofs.Tables.{few_edges, few_triangles, never_refused, all_counted}
 use Rattle.checking.proofs.check.Goals as goal
 
@@ -38,7 +38,7 @@ returns g c =
     let columns = all_counted (triangles s on) (replicate 1024 c.default-triangles.result) (few_triangles s on thirds) _ triangle_list.answer in
     let es = listed_take (edges s on) (replicate 512 c.default-edges.result) _ _ edge_list.answer edge_list.after in
     let ts = listed_take (triangles s on) (replicate 1024 c.default-triangles.result) _ _ triangle_list.answer triangle_list.after in
-    let holds = starting_usable s on F links thirds _ _ _ _ _ es ts c.fence.ensures c.negative.ensures c.new-grid.ensures.holds in
+    let holds = starting_surveyed s on F links thirds _ _ _ _ _ es ts c.fence.ensures c.negative.ensures c.new-grid.ensures.holds in
     c.judge.ensures
     ∙ ap (λ m. verdict F (system_in c.in_ok-edge_count.edge_count c.in_ok-triangle_count.triangle_count m) c.args.claim c.args.codes.now) holds
     ∙ ap₂ (λ e t. verdict F (system_in e t (starting_matrix S)) c.args.claim c.args.codes.now) rows columns
