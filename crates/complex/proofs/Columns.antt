@@ -27,6 +27,10 @@ past_none es up e p d h i l s = ⊎_elim
     true≢false (sym (subst (λ y. edge_less e y ≡ true) (ap (λ k. get_or es k d) at ∙ s.1 d) h) ∙ edge_apart e))
     (cases_lt p i)
 
+-- an edge that is not below that of a place stands at none before it
+pub behind_none : (es : List Edge) → ascends edge_less es ≡ true → (e : Edge) (p : ℕ) (d : Edge) → p < length es → edge_less e (get_or es p d) ≡ false → (i : ℕ) → i < p → Stands es i e → ⊥
+behind_none es up e p d l h i k s = true≢false (sym (subst (λ y. edge_less y (get_or es p d) ≡ true) (s.1 d) (ascends_far edge_less edge_chained es up i p d k l)) ∙ h)
+
 -- from a place on a list that ascends does so too, and holds what stands there
 ascends_drop : (es : List Edge) → ascends edge_less es ≡ true → (p : ℕ) → ascends edge_less (drop p es) ≡ true
 ascends_drop es up p = steps_ascend edge_less (drop p es) (λ k d l.
@@ -76,6 +80,9 @@ module _ (f : ℕ → ℕ) (es : List Edge) (up : ascends edge_less es ≡ true)
 
   pub nearer_none : HasRow es first e None → Nearer f es first e so_far so_far
   nearer_none n = record { sooner = λ i b. b; chosen = λ r h. inl h; passed = λ i l m k s. absurd (n i l k s) }
+
+  pub nearer_behind : ((i : ℕ) → 1 ≤ i → Before i so_far → Stands es (i - 1) e → ⊥) → Nearer f es first e so_far so_far
+  nearer_behind n = record { sooner = λ i b. b; chosen = λ r h. inl h; passed = λ i l b m s. absurd (n i m b s) }
 
   pub nearer_come : (row : ℕ) → HasRow es first e (Some row) → Before row so_far → (f row ≡ 0 → ⊥) → Nearer f es first e so_far (Some row)
   nearer_come row h m d = record {
@@ -162,8 +169,8 @@ module _ (minus : ℕ) (es : List Edge) (ts : List Triangle) (fence : List ℕ) 
     pub boundary_none : length es + c < first → First f first None
     boundary_none l i h = entry_other (length es) (length ts) i c (S.matrix i c) (S.target i) (omega arith) (λ e. absurd (omega arith))
 
-    pub boundary_first : (o₁ o₂ o₃ : Option ℕ) → first ≤ length es + c → Nearer f es first (edge t.b t.c) (Some (length es + c)) o₁
-        → Nearer f es first (edge t.a t.c) o₁ o₂ → Nearer f es first (edge t.a t.b) o₂ o₃ → First f first o₃
+    pub boundary_first : (o₁ o₂ o₃ : Option ℕ) → first ≤ length es + c → Nearer f es first (edge t.a t.b) (Some (length es + c)) o₁
+        → Nearer f es first (edge t.a t.c) o₁ o₂ → Nearer f es first (edge t.b t.c) o₂ o₃ → First f first o₃
     boundary_first o₁ o₂ o₃ l n₁ n₂ n₃ = found o₃ refl
       where
         before₂ : (i : ℕ) → Before i o₃ → Before i o₂
@@ -187,9 +194,9 @@ module _ (minus : ℕ) (es : List Edge) (ts : List Triangle) (fence : List ℕ) 
         edge_row : (i : ℕ) → first ≤ i → Before i o₃ → 1 ≤ i → i ≤ length es → f i ≡ 0
         edge_row i h k a b =
             code_zero minus t (edge_at i) (f i) (entry_edge (length es) (length ts) i c (S.matrix i c) (S.target i) a b low high)
-            (λ e. n₁.passed i h (before₁ i k) a (stands i _ a b e))
-            (λ e. n₂.passed i h (before₂ i k) a (stands i _ a b e))
             (λ e. n₃.passed i h k a (stands i _ a b e))
+            (λ e. n₂.passed i h (before₂ i k) a (stands i _ a b e))
+            (λ e. n₁.passed i h (before₁ i k) a (stands i _ a b e))
 
         below : (i : ℕ) → first ≤ i → Before i o₃ → f i ≡ 0
         below i h k =

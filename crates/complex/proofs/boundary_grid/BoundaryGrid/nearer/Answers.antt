@@ -1,9 +1,12 @@
 -- The row that holds the edge is the only one.
 use Rattle.std.proofs.Common.{refl, sym, ◌∙◌, true≢false}
 use Rattle.complex.specs.Grids.{matrix_of}
-use Rattle.complex.proofs.Columns.{nearer_none, nearer_come, nearer_stay}
+use Rattle.complex.proofs.Columns.{nearer_none, nearer_behind, nearer_come, nearer_stay}
 use Rattle.complex.proofs.boundary_grid.BoundaryGrid.nearer.Goals as goal
 use Rattle.complex.proofs.boundary_grid.BoundaryGrid.nearer.Goals.{else-is_before-via-then-is_before+else-entry-ne0, else-is_before-via-else-is_before}
+
+pub returns-then-is_behind : goal.returns-then-is_behind
+returns-then-is_behind c = nearer_behind (λ i. (matrix_of c.args.self.now).at i c.args.column) _ c.args.self.now.rising c.args.first _ _ (c.is_behind.ensures c.if-is_behind.true)
 
 pub returns-in_default : goal.returns-in_default
 returns-in_default c = nearer_none (λ i. (matrix_of c.args.self.now).at i c.args.column) _ c.args.self.now.rising _ _ _ c.in_default.ensures
