@@ -1,7 +1,7 @@
 // The first nonzero row of a column, by looking up the few edges whose rows can be nonzero.
 ghost use Rattle.std.specs.Prelude.{◌≡◌, ℕ, ◌+◌, ◌-◌, ◌≤◌, ◌↔◌, length, IsTrue};
 ghost use Rattle.matrix.specs.Nonzero.{next_in};
-ghost use Rattle.complex.specs.Grids.{matrix_of, Before, HasRow, Nearer};
+ghost use Rattle.complex.specs.Grids.{matrix_of, Before, HasRow, Meets, Nearer};
 ghost use Rattle.complex.specs.Orders.{Stands};
 
 use super::BoundaryGrid;
@@ -44,9 +44,11 @@ impl<'e, 't, 'f> BoundaryGrid<'e, 't, 'f> {
         Some((passed + place) as u32 + 1)
     }
 
-    // The nearest of the row found so far and that of the edge, if this is nonzero in the column and lies from `first` on.
+    // The nearest of the row found so far and that of the edge, if this is nonzero in the column and lies from `first` on. The edge is one
+    // of the column, which is 0 there only if the code for -1 is: no field's is, and so the entry need not be worked out.
     #[inline(always)]
     fn nearer(&self, column: u32, first: u32, edge: Edge, so_far: Option<u32>) -> Option<u32>
+        requires { Meets (λ i. (matrix_of self.now).at i column) self.now.minus self.now.edges.now edge }
         ensures { Nearer (λ i. (matrix_of self.now).at i column) self.now.edges.now first edge so_far result }
     {
         if self.is_behind(edge, so_far) {
@@ -55,7 +57,7 @@ impl<'e, 't, 'f> BoundaryGrid<'e, 't, 'f> {
         let Some(row) = self.row_of(first, edge) else {
             return so_far;
         };
-        if is_before(row, so_far) && self.entry(row, column) != 0 {
+        if is_before(row, so_far) && (self.minus != 0 || self.entry(row, column) != 0) {
             Some(row)
         } else {
             so_far
