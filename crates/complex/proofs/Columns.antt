@@ -1,7 +1,7 @@
 -- The columns of the starting matrix: where they can be nonzero, and searches that look only there.
-use Rattle.std.proofs.Common.{◌≡◌, ℕ, ◌+◌, ◌-◌, ◌<◌, ◌≤◌, Bool, true, false, cond, ◌&&◌, ◌||◌, eqb, ltb, leb, List, [], ◌∷◌, length, get_or, take, drop, suc, length-drop, Some, None, Option, inl, inr, sym, refl, ap, ◌∙◌, subst, ap₂, ⊎_elim, true≢false, arith}
+use Rattle.std.proofs.Common.{◌≡◌, ℕ, ◌+◌, ◌-◌, ◌<◌, ◌≤◌, Bool, true, false, cond, not, ◌&&◌, ◌||◌, eqb, ltb, leb, List, [], ◌∷◌, length, get_or, take, drop, suc, length-drop, Some, None, Option, inl, inr, sym, refl, ap, ◌∙◌, subst, ap₂, ⊎_elim, true≢false, arith}
 use Rattle.std.proofs.lemmas.List.{get_or_default, get_or-drop, take_all}
-use Rattle.std.proofs.lemmas.Bool.{cases_lt, cases_eq, cases_order, cases_Bool, and_parts, or_parts, or_from, eqb-true, cond-false}
+use Rattle.std.proofs.lemmas.Bool.{cases_lt, cases_eq, cases_order, cases_Bool, and_parts, and_from, or_parts, or_from, or_left, or_right, eqb-true, eq-eqb, not-false, cond-false}
 use Rattle.std.proofs.lemmas.Bool.Decides.{nat_tests}
 use Rattle.matrix.specs.Matrix.{inside}
 use Rattle.matrix.specs.Nonzero.{First, next_in}
@@ -10,8 +10,8 @@ use Rattle.survey.specs.declared.edge.Edge.{Edge}
 use Rattle.survey.specs.declared.edge.Triangle.{Triangle}
 use Rattle.survey.specs.Surveys.{edge, steps}
 use Rattle.complex.specs.declared.boundary_grid.BoundaryGrid.{BoundaryGrid}
-use Rattle.complex.specs.Boundaries.{boundary_code_of, has_step_of, listed_system, no_edge, no_triangle}
-use Rattle.complex.specs.Grids.{matrix_of, Before, HasRow, Nearer, starting_outside}
+use Rattle.complex.specs.Boundaries.{boundary_code_of, fence_code_of, has_step_of, listed_system, no_edge, no_triangle}
+use Rattle.complex.specs.Grids.{matrix_of, Before, HasRow, Meets, Nearer, starting_outside}
 use Rattle.complex.specs.OrderLaws.{edge_apart, edge_chained}
 use Rattle.complex.specs.Orders.{ascends, edge_less, Stands}
 use Rattle.complex.specs.Systems.{System, starting}
@@ -26,6 +26,10 @@ past_none es up e p d h i l s = ⊎_elim
     let at : p ≡ i = omega arith in
     true≢false (sym (subst (λ y. edge_less e y ≡ true) (ap (λ k. get_or es k d) at ∙ s.1 d) h) ∙ edge_apart e))
     (cases_lt p i)
+
+-- an edge that is not below that of a place stands at none before it
+pub behind_none : (es : List Edge) → ascends edge_less es ≡ true → (e : Edge) (p : ℕ) (d : Edge) → p < length es → edge_less e (get_or es p d) ≡ false → (i : ℕ) → i < p → Stands es i e → ⊥
+behind_none es up e p d l h i k s = true≢false (sym (subst (λ y. edge_less y (get_or es p d) ≡ true) (s.1 d) (ascends_far edge_less edge_chained es up i p d k l)) ∙ h)
 
 -- from a place on a list that ascends does so too, and holds what stands there
 ascends_drop : (es : List Edge) → ascends edge_less es ≡ true → (p : ℕ) → ascends edge_less (drop p es) ≡ true
@@ -55,6 +59,13 @@ row_none es up first p e is h i l k s =
     let at : p + (i - 1 - p) ≡ i - 1 = omega arith in
     n (ascends_drop es up p) (i - 1 - p) (omega (arith, length-drop p es), λ d. get_or-drop p es (i - 1 - p) d ∙ ap (λ j. get_or es j d) at ∙ s.1 d)
 
+-- what the answer to a test for 0 says
+pub not_zero : (b : Bool) (x : ℕ) → b ≡ not (eqb x 0) → b ≡ true → x ≡ 0 → ⊥
+not_zero b x e t z = true≢false (sym t ∙ e ∙ ap (λ y. not (eqb y 0)) z)
+
+pub is_zero : (b : Bool) (x : ℕ) → b ≡ not (eqb x 0) → b ≡ false → x ≡ 0
+is_zero b x e f = eqb-true x 0 (not-false (eqb x 0) (sym e ∙ f))
+
 -- where a search stands: at a nonzero row from `first` on
 abbrev At : (ℕ → ℕ) → ℕ → ℕ → Type 0
 At f first r = (first ≤ r) × (f r ≡ 0 → ⊥)
@@ -77,12 +88,18 @@ module _ (f : ℕ → ℕ) (es : List Edge) (up : ascends edge_less es ≡ true)
   pub nearer_none : HasRow es first e None → Nearer f es first e so_far so_far
   nearer_none n = record { sooner = λ i b. b; chosen = λ r h. inl h; passed = λ i l m k s. absurd (n i l k s) }
 
+  pub nearer_behind : ((i : ℕ) → 1 ≤ i → Before i so_far → Stands es (i - 1) e → ⊥) → Nearer f es first e so_far so_far
+  nearer_behind n = record { sooner = λ i b. b; chosen = λ r h. inl h; passed = λ i l b m s. absurd (n i m b s) }
+
   pub nearer_come : (row : ℕ) → HasRow es first e (Some row) → Before row so_far → (f row ≡ 0 → ⊥) → Nearer f es first e so_far (Some row)
   nearer_come row h m d = record {
     sooner = λ i b. before_less i row so_far b m;
     chosen = λ r is. let at : row ≡ r = cc in inr (subst (At f first) at (h.0, d));
     passed = λ i l b k s. let same = one_place (i - 1) (row - 1) s h.2 in let pos = h.1 in absurd (omega arith);
   }
+
+  pub row_meets : (minus row : ℕ) → HasRow es first e (Some row) → Meets f minus es e → (minus ≡ 0 → ⊥) → f row ≡ 0 → ⊥
+  row_meets minus row h m n z = m n row h.1 h.2 z
 
   pub nearer_stay : (row : ℕ) → HasRow es first e (Some row) → (Before row so_far → f row ≡ 0) → Nearer f es first e so_far so_far
   nearer_stay row h z = record {
@@ -136,6 +153,12 @@ code_zero minus t e x is p q r =
     (cases_Bool (eqb e.a t.a && eqb e.b t.c)))
     (cases_Bool (eqb e.a t.b && eqb e.b t.c))
 
+-- where a step goes along an edge, either way, so is the fence
+along_some : (minus : ℕ) (p q : Bool) → (p || q) ≡ true → (minus ≡ 0 → ⊥) → cond p 1 (cond q minus 0) ≡ 0 → ⊥
+along_some minus true q h n z = let w : ◌≡◌ {A = ℕ} 1 0 = z in absurd (omega arith)
+along_some minus false true h n z = n z
+along_some minus false false h n z = true≢false (sym h)
+
 at_nearer : (f : ℕ → ℕ) (es : List Edge) (first : ℕ) (e : Edge) (so_far nearest : Option ℕ) → Nearer f es first e so_far nearest
     → ((r : ℕ) → so_far ≡ Some r → At f first r) → (r : ℕ) → nearest ≡ Some r → At f first r
 at_nearer f es first e so_far nearest n h r is = ⊎_elim (h r) (λ a. a) (n.chosen r is)
@@ -162,8 +185,8 @@ module _ (minus : ℕ) (es : List Edge) (ts : List Triangle) (fence : List ℕ) 
     pub boundary_none : length es + c < first → First f first None
     boundary_none l i h = entry_other (length es) (length ts) i c (S.matrix i c) (S.target i) (omega arith) (λ e. absurd (omega arith))
 
-    pub boundary_first : (o₁ o₂ o₃ : Option ℕ) → first ≤ length es + c → Nearer f es first (edge t.b t.c) (Some (length es + c)) o₁
-        → Nearer f es first (edge t.a t.c) o₁ o₂ → Nearer f es first (edge t.a t.b) o₂ o₃ → First f first o₃
+    pub boundary_first : (o₁ o₂ o₃ : Option ℕ) → first ≤ length es + c → Nearer f es first (edge t.a t.b) (Some (length es + c)) o₁
+        → Nearer f es first (edge t.a t.c) o₁ o₂ → Nearer f es first (edge t.b t.c) o₂ o₃ → First f first o₃
     boundary_first o₁ o₂ o₃ l n₁ n₂ n₃ = found o₃ refl
       where
         before₂ : (i : ℕ) → Before i o₃ → Before i o₂
@@ -187,9 +210,9 @@ module _ (minus : ℕ) (es : List Edge) (ts : List Triangle) (fence : List ℕ) 
         edge_row : (i : ℕ) → first ≤ i → Before i o₃ → 1 ≤ i → i ≤ length es → f i ≡ 0
         edge_row i h k a b =
             code_zero minus t (edge_at i) (f i) (entry_edge (length es) (length ts) i c (S.matrix i c) (S.target i) a b low high)
-            (λ e. n₁.passed i h (before₁ i k) a (stands i _ a b e))
-            (λ e. n₂.passed i h (before₂ i k) a (stands i _ a b e))
             (λ e. n₃.passed i h k a (stands i _ a b e))
+            (λ e. n₂.passed i h (before₂ i k) a (stands i _ a b e))
+            (λ e. n₁.passed i h (before₁ i k) a (stands i _ a b e))
 
         below : (i : ℕ) → first ≤ i → Before i o₃ → f i ≡ 0
         below i h k =
@@ -219,6 +242,21 @@ module _ (minus : ℕ) (es : List Edge) (ts : List Triangle) (fence : List ℕ) 
     pub record Passing (nearest : Option ℕ) (rest : List Edge) : Type 0 where
       pub chosen : (r : ℕ) → nearest ≡ Some r → At g first r
       pub passed : (i : ℕ) → first ≤ i → Before i nearest → 1 ≤ i → i ≤ length es → along (edge_at i) rest ≡ false → g i ≡ 0
+      pub among : (u v : ℕ) → has_step_of u v rest ≡ true → has_step_of u v (steps fence) ≡ true
+
+    -- the column meets the edges of the next step, both ways
+    fence_meets : (e : Edge) → along e (steps fence) ≡ true → Meets g minus es e
+    fence_meets e y n i l s z =
+        let in' = s.0 in
+        along_some minus (has_step_of e.a e.b (steps fence)) (has_step_of e.b e.a (steps fence)) y n
+        (sym (entry_fence (length es) (length ts) i (S.matrix i (length ts + 1)) (S.target i) l (omega arith) ∙ ap (fence_code_of minus fence) (s.1 no_edge)) ∙ z)
+
+    module _ (u v : ℕ) (o : Option ℕ) (rest : List Edge) (h : Passing o (edge u v ∷ rest)) where
+      goes : has_step_of u v (steps fence) ≡ true
+      goes = h.among u v (or_left _ _ (and_from _ _ (eq-eqb u u refl) (eq-eqb v v refl)))
+
+      pub passing_back : Meets g minus es (edge v u)
+      passing_back = fence_meets (edge v u) (or_right (has_step_of v u (steps fence)) _ goes)
 
     fence_zero : (i : ℕ) → 1 ≤ i → i ≤ length es → along (edge_at i) (steps fence) ≡ false → g i ≡ 0
     fence_zero i a b n =
@@ -227,11 +265,11 @@ module _ (minus : ℕ) (es : List Edge) (ts : List Triangle) (fence : List ℕ) 
         entry_fence (length es) (length ts) i (S.matrix i (length ts + 1)) (S.target i) a b ∙ cond-false _ 1 _ p.0 ∙ cond-false _ minus 0 p.1
 
     pub passing_none : Passing None (steps fence)
-    passing_none = record { chosen = λ r e. cc; passed = λ i h k a b n. fence_zero i a b n }
+    passing_none = record { chosen = λ r e. cc; passed = λ i h k a b n. fence_zero i a b n; among = λ u v h. h }
 
     pub passing_more : (u v : ℕ) (o o₁ o₂ : Option ℕ) (rest : List Edge) → Passing o (edge u v ∷ rest)
         → Nearer g es first (edge u v) o o₁ → Nearer g es first (edge v u) o₁ o₂ → Passing o₂ rest
-    passing_more u v o o₁ o₂ rest h n₁ n₂ = record { chosen = at_nearer g es first _ o₁ o₂ n₂ (at_nearer g es first _ o o₁ n₁ h.chosen); passed = passed }
+    passing_more u v o o₁ o₂ rest h n₁ n₂ = record { chosen = at_nearer g es first _ o₁ o₂ n₂ (at_nearer g es first _ o o₁ n₁ h.chosen); passed = passed; among = λ a b s. h.among a b (or_right _ _ s) }
       where
         edge_back : (e : Edge) (u v : ℕ) → (eqb e.b u && eqb e.a v) ≡ true → e ≡ edge v u
         edge_back e u v y = let p = and_parts _ _ y in ap₂ edge (eqb-true e.a v p.1) (eqb-true e.b u p.0)

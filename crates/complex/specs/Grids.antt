@@ -36,6 +36,10 @@ HasRow es first e (Some row) = (first ≤ row) × (1 ≤ row) × Stands es (row 
 abbrev pub Before : ℕ → Option ℕ → Type 0
 Before i found = IfSome found (λ r. i < r)
 
+-- the column f is not 0 at a row that holds the edge e, unless the code for -1 is 0
+abbrev pub Meets : (ℕ → ℕ) → ℕ → List Edge → Edge → Type 0
+Meets f minus es e = minus ≢ 0 → (i : ℕ) → 1 ≤ i → Stands es (i - 1) e → f i ≢ 0
+
 -- a search for the first nonzero row of a column f from `first` on has come from one row, or none, to the nearest so far: a
 -- nonzero one, if it is another, and the rows from `first` to before it that hold the edge e are zero
 pub record Nearer (f : ℕ → ℕ) (es : List Edge) (first : ℕ) (e : Edge) (so_far nearest : Option ℕ) : Type 0 where

@@ -1,5 +1,5 @@
--- In every total order nothing is below itself, and below is transitive. The lexicographic orders of edges and triangles are
--- what comparing field by field decides, and only the same edges and triangles are tied.
+-- In every total order nothing is below itself, and below is transitive, and so in the lexicographic orders of edges and triangles.
+-- These are what comparing field by field decides, and only the same edges and triangles are tied.
 use Rattle.std.specs.Prelude.{◌≡◌, Bool, true, false, Some}
 use Rattle.std.specs.Cmp.{IsTotalOrder}
 use Rattle.std.specs.Ordering.{is_lt, is_some_and, nat_cmp, ordering_then, partial_ordering_then}
@@ -41,6 +41,12 @@ edge_same x y e = grind (arith, nat_tests)
 -- as `<` asks
 pub edge_below : (x y : Edge) → is_some_and is_lt (partial_ordering_then (Some (nat_cmp x.a y.a)) (Some (nat_cmp x.b y.b))) ≡ edge_less x y
 edge_below x y = grind (arith, nat_tests)
+
+pub triangle_apart : (x : Triangle) → triangle_less x x ≡ false
+triangle_apart x = grind (arith, nat_tests)
+
+pub triangle_chained : (x y z : Triangle) → triangle_less x y ≡ true → triangle_less y z ≡ true → triangle_less x z ≡ true
+triangle_chained x y z p q = grind (arith, nat_tests)
 
 pub triangle_decides : (x y : Triangle) → is_lt (ordering_then (nat_cmp x.a y.a) (ordering_then (nat_cmp x.b y.b) (nat_cmp x.c y.c))) ≡ triangle_less x y
 triangle_decides x y = grind (arith, nat_tests)

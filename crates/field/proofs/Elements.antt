@@ -31,6 +31,10 @@ module _ (F : Arithmetic) (f : FieldLaws F) where
     inv = λ x. (F.inverse x.0, f.inverse_code x.0);
   }
 
+  -- elements of one code are equal
+  pub element_eq : (x y : Element F) → x.0 ≡ y.0 → x ≡ y
+  element_eq x y e = Fin.val_path e
+
   pub element_laws : Laws elements
   element_laws = record {
     add_comm = λ x y. Fin.val_path (f.sum_comm _ _ x.1 y.1);

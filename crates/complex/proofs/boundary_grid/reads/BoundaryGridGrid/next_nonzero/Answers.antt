@@ -1,7 +1,7 @@
 -- Outside the columns every entry is 0.
 use Rattle.std.proofs.Common.{arith}
 use Rattle.complex.proofs.Columns.{column_outside, next_found}
-use Rattle.complex.proofs.boundary_grid.BoundaryGridGrid.next_nonzero.Goals as goal
+use Rattle.complex.proofs.boundary_grid.reads.BoundaryGridGrid.next_nonzero.Goals as goal
 
 pub returns-then-column-triangles : goal.returns-then-column-triangles
 returns-then-column-triangles c =
