@@ -1,5 +1,5 @@
 -- Vectors that agree, by the test and by every row.
-use Rattle.std.proofs.Common.{◌≡◌, ℕ, ◌≤◌, ⊥, true, false, eqb, ap₂, arith}
+use Rattle.std.proofs.Common.{◌≡◌, ℕ, ◌≤◌, true, false, eqb, ap₂, arith}
 use Rattle.std.proofs.lemmas.Bool.{eqb-true, eq-eqb}
 use Rattle.survey.proofs.Lists.{false_from}
 use Rattle.field.proofs.Ranges.{each_from, all_from, all_same}
