@@ -1,5 +1,5 @@
 // Reading a survey's text.
-ghost use Rattle.std.specs.Prelude.{◌≡◌, ◌≤◌, length, take, IfOk};
+ghost use Rattle.std.specs.Prelude.{◌≡◌, ◌≤◌, length, take, drop, IfOk};
 ghost use Rattle.refusal.specs.Outcomes.{outcome};
 ghost use Rattle.survey.specs.Plans.{survey_of};
 ghost use Rattle.text.specs.Lines.{survey_behind};
@@ -29,6 +29,7 @@ impl Reader<'_> {
         ensures answer { outcome (survey_behind self.old) result ≡ reading self.old }
         ensures within { IfOk result (λ p. p.1 ≤ length self.old) }
         ensures front { IfOk result (λ p. take p.1 self.old ≡ text_of (survey_of p.0)) }
+        ensures rest { IfOk result (λ p. self.new ≡ drop p.1 self.old) }
     {
         let all = self.left();
         let mut neighbours = self.count_line()?;

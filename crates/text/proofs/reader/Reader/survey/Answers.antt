@@ -49,4 +49,5 @@ returns c =
       answer = ap (λ rest. accepted (record { got = survey_of c.in_ok-survey.survey; rest = rest })) (ap (λ k. drop k text) place ∙ end.behind) ∙ survey_is c l;
       within = omega (arith, c.left-all.ensures);
       front = ap (λ k. take k text) place ∙ end.front;
+      rest = sym (ap (λ k. drop k text) place ∙ end.behind);
     }
