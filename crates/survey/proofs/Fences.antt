@@ -9,7 +9,7 @@ use Rattle.survey.specs.Sets.{joining}
 use Rattle.survey.specs.Lists.{numbers, after}
 use Rattle.std.proofs.lemmas.List.{at_drop_more, at_drop_all}
 use Rattle.survey.specs.declared.edge.Edge.{Edge}
-use Rattle.survey.specs.Surveys.{Sensors, edge, meeting, distinct, nobody, steps, steps_from}
+use Rattle.survey.specs.Surveys.{Survey, Sensors, edge, meeting, distinct, nobody, all_linked, steps, steps_from}
 use Rattle.survey.proofs.Lists.{sum, sum_one, sum_more}
 
 -- x is a sensor's number
@@ -82,6 +82,13 @@ steps_more xs i l = elim (cases_lt (i + 1) (length xs)) [
   where
     F : List ℕ → List Edge
     F ys = steps_from (get_or xs 0 0) ys
+
+-- the step has a link, or there is none and the fence is not closed
+pub linked_step : (s : Survey) (xs : List ℕ) (i : ℕ) (b : Bool) → i < length xs
+    → b ≡ s.linked (get_or xs i 0) (after xs i)
+    → all_linked s (steps_from (get_or xs 0 0) (drop i xs)) ≡ (b && all_linked s (steps_from (get_or xs 0 0) (drop (i + 1) xs)))
+linked_step s xs i b l t =
+    ap (all_linked s) (steps_more xs i l) ∙ ap (λ a. a && all_linked s (steps_from (get_or xs 0 0) (drop (i + 1) xs))) (sym t)
 
 pub steps_whole : (xs : List ℕ) → steps_from (get_or xs 0 0) xs ≡ steps xs
 steps_whole [] = refl

@@ -30,7 +30,7 @@ impl Neighbours {
             if !self.is_sensor(x) || met.member(x) {
                 return false;
             }
-            met = met.with(x);
+            met.insert(x);
         }
         true
     }

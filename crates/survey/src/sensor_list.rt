@@ -6,7 +6,7 @@ use crate::limits::MAX_FENCE;
 use std::marker::Model;
 
 // There is no heap below the console, so the numbers are the first `len` of a table's places. A clause sees their list.
-// The library's `ArrayVec` would do, but every crate above would rest on it for the sake of these four functions.
+// The library's `ArrayVec` would do, but every crate above would rest on it for the sake of these five functions.
 #[derive(Drop)]
 pub struct SensorList {
     table: [u16; MAX_FENCE],
@@ -24,6 +24,7 @@ impl Model for SensorList {
 }
 
 impl SensorList {
+    ghost use Rattle.std.specs.Bool.{then_some, OnFalse};
     ghost use Rattle.std.specs.Prelude.{[]};
 
     // The list with no number in it.
@@ -53,12 +54,20 @@ impl SensorList {
     pub fn with(mut self, number: u16) -> Option<SensorList>
         ensures { result ≡ with_number self number }
     {
+        if self.push(number) { Some(self) } else { None }
+    }
+
+    // Adds one number at the end, and says whether there was a place for it; where there was none, the list stays as it was.
+    pub fn push(&mut self, number: u16) -> bool
+        ensures answer { then_some result self.new ≡ with_number self.old number }
+        ensures full { OnFalse result (self.new ≡ self.old) }
+    {
         if self.len == MAX_FENCE {
-            return None;
+            return false;
         }
         self.table[self.len] = number;
         self.len += 1;
-        Some(self)
+        true
     }
 
     // The numbers in their order.

@@ -28,7 +28,7 @@ impl SensorSet {
     {
         let mut set = SensorSet::empty();
         for x in 1..=count.min(MAX_SENSORS) {
-            set = set.with(x);
+            set.insert(x);
         }
         set
     }
@@ -37,10 +37,17 @@ impl SensorSet {
     pub fn with(mut self, x: u16) -> SensorSet
         ensures { set_of result ≡ joining x (set_of self) }
     {
+        self.insert(x);
+        self
+    }
+
+    // Takes `x` in as well, in place.
+    pub(crate) fn insert(&mut self, x: u16)
+        ensures { set_of self.new ≡ joining x (set_of self.old) }
+    {
         if (1..=MAX_SENSORS).contains(&x) {
             self.on[usize::from(x)] = true;
         }
-        self
     }
 
     // The set but for `x`; a number that is not in it leaves it as it is.

@@ -5,6 +5,7 @@ pub mod Rising
 pub mod Accepting
 pub mod Back
 pub mod Lengths
+pub mod Tokens
 pub mod Lists
 pub mod Counting
 pub mod Naming

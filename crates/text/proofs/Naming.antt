@@ -1,9 +1,9 @@
 -- A loop that names a rising list, one by one.
-use Rattle.std.proofs.Common.{◌≡◌, ℕ, zero, suc, ◌+◌, ◌<◌, ◌≤◌, ◌⊎◌, Bool, true, false, not, ◌&&◌, ◌||◌, eqb, ltb, leb, List, [], ◌∷◌, length, get_or, take, drop, sym, refl, ap, ◌∙◌, inl, inr, arith}
-use Rattle.std.proofs.lemmas.List.{at_drop_more, take_more}
+use Rattle.std.proofs.Common.{◌≡◌, ℕ, zero, suc, ◌+◌, ◌<◌, ◌≤◌, ◌⊎◌, Bool, true, false, cond, not, ◌&&◌, ◌||◌, eqb, ltb, leb, List, [], ◌∷◌, length, get_or, take, drop, sym, refl, ap, ◌∙◌, subst, inl, inr, arith}
+use Rattle.std.proofs.lemmas.List.{at_drop_more, at_drop_all, take_more, take_all}
 use Rattle.std.proofs.lemmas.Bool.Decides.{nat_tests}
-use Rattle.refusal.specs.Outcomes.{accepted}
-use Rattle.refusal.proofs.Outcomes.{taken_parts, same_from_accepted}
+use Rattle.refusal.specs.Outcomes.{accepted, refused}
+use Rattle.refusal.proofs.Outcomes.{refused_accepted, taken_parts, same_from_accepted}
 use Rattle.survey.specs.declared.neighbours.Neighbours.{Neighbours}
 use Rattle.survey.specs.Lists.{member}
 use Rattle.survey.proofs.Lists.{member_push}
@@ -56,6 +56,17 @@ module _ (old now : Neighbours) (x i : ℕ) (list : List ℕ) (on : NamesOn old 
   -- two different sensors follow each other exactly if they rise
   follows_two : i < length list → 1 ≤ x → x ≤ n → two_sensors (drawn now []) x y ≡ follows
   follows_two l a b = let same = on.named.count in let up = above i l in grind (arith, nat_tests)
+
+  pub names_on_refused : (k : ℕ) → i < length list → 1 ≤ x → x ≤ n → refused k ≡ naming (drawn now []) x y → (rising n x 0 list ≡ false) × (k ≡ 4)
+  names_on_refused k l a b e = go (two_sensors (drawn now []) x y) (follows_two l a b) e
+    where
+      go : (t : Bool) → t ≡ follows → refused k ≡ cond t (accepted (with_name (drawn now []) x y)) (refused 4) → (rising n x 0 list ≡ false) × (k ≡ 4)
+      go true f e = absurd (refused_accepted e)
+      go false f e = let four : k ≡ 4 = cc in (rises_next l ∙ ap (λ t. t && rising n x y (drop (i + 1) list)) (sym f), four)
+
+  pub names_on_all : length list ≤ i → (rising n x 0 list ≡ true) × NamesAll old x list now
+  names_on_all l =
+      (sym on.rises ∙ at_drop_all (rising n x before) list i l, subst (λ (xs : List ℕ). NamesAll old x xs now) (take_all i list l) on.named)
 
   pub names_on_more : (new : Neighbours) → i < length list → 1 ≤ x → x ≤ n → accepted (drawn new []) ≡ naming (drawn now []) x y → NamesOn old new x (i + 1) list
   names_on_more new l a b e =

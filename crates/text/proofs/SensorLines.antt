@@ -44,7 +44,7 @@ module _ {bytes : List ℕ} {old : Neighbours} {x v : ℕ} {f : Option (List ℕ
   pub line_out_of_turn : ¬ (v ≡ x) → a_sensor_line old.count x bytes ≡ refused 3
   line_out_of_turn d = form.line ∙ cond-false _ _ _ (ne_eqb v x d)
 
-  line_rising : (t : Bool) → v ≡ x → rising old.count x 0 form.list ≡ t → a_sensor_line old.count x bytes ≡ cond t (accepted (record { got = form.list; rest = rest })) (refused 4)
+  pub line_rising : (t : Bool) → v ≡ x → rising old.count x 0 form.list ≡ t → a_sensor_line old.count x bytes ≡ cond t (accepted (record { got = form.list; rest = rest })) (refused 4)
   line_rising t e q = form.line ∙ cond-true _ _ _ (eq-eqb v x e) ∙ ap (λ t. cond t (accepted (record { got = form.list; rest = rest })) (refused 4)) q
 
   -- more numbers than there can be sensors do not rise
@@ -65,6 +65,10 @@ module _ {bytes : List ℕ} {old : Neighbours} {x v : ℕ} {f : Option (List ℕ
 -- rows read before the others
 abbrev rows_before : List (List ℕ) → Read (List (List ℕ)) → Outcome (Read (List (List ℕ)))
 rows_before rows r = accepted (record { got = rows ++ r.got; rest = r.rest })
+
+rows_before_none : (o : Outcome (Read (List (List ℕ)))) → and_then o (rows_before []) ≡ o
+rows_before_none (accepted r) = refl
+rows_before_none (refused k) = refl
 
 rows_before_more : (rows : List (List ℕ)) (row : List ℕ) (o : Outcome (Read (List (List ℕ))))
     → and_then (and_then o (row_before row)) (rows_before rows) ≡ and_then o (rows_before (rows ++ row ∷ []))
@@ -95,6 +99,19 @@ pub record LinesOn (bytes : List ℕ) (old now : Neighbours) (here : List ℕ) (
   pub read : and_then (sensor_lines_of old.count (old.count + 1 - x) x here) (rows_before rows) ≡ sensor_lines_of old.count old.count 1 bytes
   pub same : now.count ≡ old.count
   pub named : (a b : ℕ) → at now.rows a b ≡ names rows a b
+
+pub lines_on_none : (bytes : List ℕ) (old : Neighbours) → ((x y : ℕ) → at old.rows x y ≡ false) → LinesOn bytes old old bytes 1
+lines_on_none bytes old none = record {
+  rows = [];
+  long = omega arith;
+  read = let m : old.count + 1 - 1 ≡ old.count = omega arith in rows_before_none _ ∙ ap (λ k. sensor_lines_of old.count k 1 bytes) m;
+  same = refl;
+  named = λ a b. none a b ∙ sym (nobody a b);
+}
+  where
+    nobody : (a b : ℕ) → names [] a b ≡ false
+    nobody zero b = refl
+    nobody (suc a) b = refl
 
 module _ (bytes : List ℕ) (old now : Neighbours) (here : List ℕ) (x : ℕ) (on : LinesOn bytes old now here x) where
   abbrev n : ℕ

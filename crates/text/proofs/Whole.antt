@@ -1,6 +1,7 @@
 -- A survey from its lines: what reading comes to once they are read.
-use Rattle.std.proofs.Common.{◌≡◌, ℕ, ◌-◌, ◌≤◌, Bool, List, length, take, drop, Some, None, Ok, Err, Option, Result, sym, refl, ap, ◌∙◌, arith, length-append}
+use Rattle.std.proofs.Common.{◌≡◌, ℕ, ◌-◌, ◌<◌, ◌≤◌, Bool, List, length, take, drop, Some, None, Ok, Err, Option, Result, sym, refl, ap, ◌∙◌, arith, length-append}
 use mathlib.Core.Path.{fun_ext}
+use Rattle.std.proofs.lemmas.Bool.Decides.{nat_tests}
 use Rattle.std.proofs.lemmas.List.{take_at, drop_at}
 use Rattle.refusal.specs.declared.Refusal.{Refusal}
 use Rattle.refusal.specs.Outcomes.{Outcome, accepted, refused, and_then, outcome}
@@ -22,6 +23,10 @@ use Rattle.text.proofs.Lists.{fitted_accepted, some_fits}
 abbrev pub with_rest : List ℕ → Survey → Outcome (Read Survey)
 with_rest rest s = accepted (record { got = s; rest = rest })
 
+-- too many sensors for a fence of different ones
+pub judged_long : (p : Neighbours) (list : List ℕ) → 64 < length list → judged (drawn p list) ≡ refused 5
+judged_long p list l = let none : None ≡ fitting list = grind (arith, nat_tests) in long_refused (drawn p list) p.most none
+
 -- what is made of the lines
 abbrev of_fence : ℕ → Read (List (List ℕ)) → Outcome (Read Survey)
 of_fence n rows =
@@ -37,6 +42,10 @@ pub record Lined (bytes : List ℕ) (new : Neighbours) (f : Option (List ℕ)) (
   pub read : reading bytes ≡ and_then (judged (drawn new list)) (with_rest rest)
   pub fits : f ≡ fitting list
 
+module _ (bytes behind : List ℕ) (old : Neighbours) (first : count_line_of bytes ≡ accepted (record { got = old.count; rest = behind })) where
+  pub lines_refused : (k : ℕ) → sensor_lines_of old.count old.count 1 behind ≡ refused k → reading bytes ≡ refused k
+  lines_refused k e = ap (λ o. and_then o of_lines) first ∙ ap (λ o. and_then o (of_fence old.count)) e
+
 module _ (bytes behind : List ℕ) (old : Neighbours) (first : count_line_of bytes ≡ accepted (record { got = old.count; rest = behind }))
     (last : List ℕ) (new : Neighbours) (lines : LinesRead behind old (Ok tt) last new) where
   survey_is : (list : List ℕ) → ◌≡◌ {A = Survey} (record { count = old.count; linked = names lines.0; fence = list }) (drawn new list)
@@ -49,6 +58,9 @@ module _ (bytes behind : List ℕ) (old : Neighbours) (first : count_line_of byt
   after_lines =
       ap (λ o. and_then o of_lines) first ∙ ap (λ o. and_then o (of_fence old.count)) lines.1
       ∙ ap (and_then (fence_line_of last)) (fun_ext (λ fence. ap (λ s. and_then (judged s) (with_rest fence.rest)) (survey_is fence.got)))
+
+  pub fence_refused : (k : ℕ) → fence_line_of last ≡ refused k → reading bytes ≡ refused k
+  fence_refused k e = after_lines ∙ ap (λ o. and_then o (λ fence. and_then (judged (drawn new fence.got)) (with_rest fence.rest))) e
 
   pub lines_read : (f : Option (List ℕ)) (rest : List ℕ) → accepted (record { got = f; rest = rest }) ≡ fitted (fence_line_of last) → Lined bytes new f rest
   lines_read f rest fence =

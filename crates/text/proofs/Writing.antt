@@ -10,7 +10,7 @@ use Rattle.text.specs.declared.write.Writer.{Writer}
 use Rattle.text.specs.Columns.{column}
 use Rattle.text.specs.Writing.{Fits, Wrote}
 
-sets_append : (out : List ℕ) (at : ℕ) (a b : List ℕ) → sets out at (a ++ b) ≡ sets (sets out at a) (at + length a) b
+pub sets_append : (out : List ℕ) (at : ℕ) (a b : List ℕ) → sets out at (a ++ b) ≡ sets (sets out at a) (at + length a) b
 sets_append out at [] b = let e : at ≡ at + 0 = omega arith in ap (λ k. sets out k b) e
 sets_append out at (x ∷ a) b =
     let e : suc at + length a ≡ at + length (x ∷ a) = omega arith in
@@ -77,10 +77,10 @@ below_sensors s end e = ap (λ k. below (k + 1) 1) e ∙ below_one s.count
 abbrev pub columns_among : Survey → ℕ → List ℕ → List ℕ
 columns_among s x ys = gather column (sift (s.linked x) ys)
 
-columns_linked : (s : Survey) (x y : ℕ) (ys : List ℕ) → true ≡ s.linked x y → columns_among s x (y ∷ ys) ≡ column y ++ columns_among s x ys
+pub columns_linked : (s : Survey) (x y : ℕ) (ys : List ℕ) → true ≡ s.linked x y → columns_among s x (y ∷ ys) ≡ column y ++ columns_among s x ys
 columns_linked s x y ys t = ap (λ b. gather column (cond b (y ∷ []) [] ++ sift (s.linked x) ys)) (sym t)
 
-columns_unlinked : (s : Survey) (x y : ℕ) (ys : List ℕ) → false ≡ s.linked x y → columns_among s x (y ∷ ys) ≡ columns_among s x ys
+pub columns_unlinked : (s : Survey) (x y : ℕ) (ys : List ℕ) → false ≡ s.linked x y → columns_among s x (y ∷ ys) ≡ columns_among s x ys
 columns_unlinked s x y ys t = ap (λ b. gather column (cond b (y ∷ []) [] ++ sift (s.linked x) ys)) (sym t)
 
 -- the loop is at y

@@ -29,6 +29,7 @@ fn read_last(before: u16, b: u8) -> Option<u16>
 }
 
 // The number whose column the bytes begin with.
+#[inline(always)]
 pub fn number_column(bytes: &[u8]) -> Option<u16>
     ensures { result ≡ number_first bytes.now }
 {

@@ -46,7 +46,7 @@ impl Reader<'_> {
         if sensor != x {
             return Err(Refusal::LineOutOfTurn);
         }
-        let list = list.ok_or(Refusal::BadNeighbour)?;
+        let list = list.as_ref().ok_or(Refusal::BadNeighbour)?;
         name_all(neighbours, x, list.as_slice())
     }
 

@@ -1,5 +1,5 @@
 // Reading a survey's text.
-ghost use Rattle.std.specs.Prelude.{◌≡◌, ◌≤◌, length, take, IfOk};
+ghost use Rattle.std.specs.Prelude.{◌≡◌, ◌≤◌, length, take, drop, IfOk};
 ghost use Rattle.refusal.specs.Outcomes.{outcome};
 ghost use Rattle.survey.specs.Plans.{survey_of};
 ghost use Rattle.text.specs.Lines.{survey_behind};
@@ -20,19 +20,23 @@ pub fn read_survey(text: &[u8]) -> Result<(Survey, usize), Refusal>
     ensures valid { AcceptedIsValid }
 {
     let mut reader = Reader::new(text);
-    let survey = reader.survey()?;
-    let at = text.len() - reader.left();
-    Ok((survey, at))
+    reader.survey()
 }
 
 impl Reader<'_> {
-    // A whole survey.
-    fn survey(&mut self) -> Result<Survey, Refusal>
-        ensures { outcome (λ s. record { got = survey_of s; rest = self.new }) result ≡ reading self.old }
+    // The same for the bytes that are left, without the theorems.
+    fn survey(&mut self) -> Result<(Survey, usize), Refusal>
+        ensures answer { outcome (survey_behind self.old) result ≡ reading self.old }
+        ensures within { IfOk result (λ p. p.1 ≤ length self.old) }
+        ensures front { IfOk result (λ p. take p.1 self.old ≡ text_of (survey_of p.0)) }
+        ensures rest { IfOk result (λ p. self.new ≡ drop p.1 self.old) }
     {
+        let all = self.left();
         let mut neighbours = self.count_line()?;
         self.sensor_lines(&mut neighbours)?;
         let fence = self.fence_line()?.ok_or(Refusal::BadFence)?;
-        Survey::new(neighbours, fence.as_slice())
+        let survey = Survey::new(neighbours, fence.as_slice())?;
+        let at = all - self.left();
+        Ok((survey, at))
     }
 }

@@ -44,6 +44,7 @@ impl<'a> Reader<'a> {
     }
 
     // The next token; none at the end of the text, or where no token begins.
+    #[inline(always)]
     fn token(&mut self) -> Option<Token<'a>>
         ensures part { option_map part_of result ≡ part_first self.old }
         ensures behind { IfSome result (λ t. self.new ≡ drop (size_of t) self.old) }
@@ -89,17 +90,18 @@ impl<'a> Reader<'a> {
     pub(crate) fn list(&mut self) -> Result<Option<SensorList>, Refusal>
         ensures { outcome (λ list. record { got = list; rest = self.new }) result ≡ fitted (formed (a_list self.old)) }
     {
-        let mut numbers = Some(SensorList::new());
+        let mut numbers = SensorList::new();
+        let mut fits = true;
         loop {
             match self.token() {
                 Some(Token::Number { value, .. }) => {
-                    numbers = numbers.and_then(|list| list.with(value));
+                    fits &= numbers.push(value);
                 }
                 Some(Token::Mark { letter: ';', .. }) => break,
                 _ => return Err(Refusal::MalformedLine),
             }
         }
         self.line_end()?;
-        Ok(numbers)
+        Ok(fits.then_some(numbers))
     }
 }

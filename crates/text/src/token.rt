@@ -25,7 +25,8 @@ pub enum Token<'a> {
     },
 }
 
-// The token at the place `at`; none at the end of the text, or where no token begins.
+// The token at the place `at`; none at the end of the text, or where no token begins. A call would hand it on in memory.
+#[inline(always)]
 pub fn next_token<'a>(text: &'a [u8], at: usize) -> Option<Token<'a>>
     ensures part { option_map part_of result ≡ part_first (drop at text.now) }
     ensures stands { IfSome result (λ t. Stands text.now at t) }

@@ -6,6 +6,7 @@ use Rattle.std.proofs.lemmas.Bool.{cases_eq, cases_lt, cases_Bool, eq-eqb, ne_eq
 use Rattle.survey.specs.Lists.{member}
 use Rattle.survey.specs.Surveys.{Survey}
 use Rattle.survey.proofs.Lists.{member_push}
+use Rattle.verifier.specs.declared.sensor.State.{State}
 use Rattle.verifier.specs.declared.sensor.State.TheVariants.{Fence, On, Off}
 use Rattle.verifier.specs.declared.sensor.Sensor.{Sensor}
 use Rattle.verifier.specs.Sensors.{state_at, is_fence_of, is_on, Marked}
@@ -62,6 +63,12 @@ on_is_all s sensors few h = fun_ext (λ x. elim (cases_Bool (is_sensor s x)) [
   | inl t ↦ ap (λ b. b && is_on (state_at sensors x)) t ∙ h x (sensor_within s x few t) ∙ sym t
   | inr f ↦ ap (λ b. b && is_on (state_at sensors x)) f ∙ sym f
 ])
+
+-- a state, by what it says of fence and on
+pub state_is : (st : State) (m : Bool) → is_fence_of st ≡ m → st ≡ cond m Fence (cond (is_on st) On Off)
+state_is Fence m e = ap (λ b. cond b Fence On) e
+state_is On m e = ap (λ b. cond b Fence On) e
+state_is Off m e = ap (λ b. cond b Fence Off) e
 
 -- switching a sensor that is not on the fence leaves the fence marked
 pub marked_switched : (fence : List ℕ) (sensors : List Sensor) (x : ℕ) (r : Sensor) → x < length sensors → member x fence ≡ false → is_fence_of r.state ≡ false

@@ -16,5 +16,5 @@ loop-x-preserved c =
     let i = c.loop-x.x-index in
     let x = get_or fence i 0 in
     let new : (leb 1 x && leb x n.count && not (met x)) ≡ true = search rules in
-    ap (λ (m : Sensors). distinct n.count m (drop (i + 1) fence)) (c.with-met.ensures ∙ joining_sensor n.count x met new n.most)
+    ap (λ (m : Sensors). distinct n.count m (drop (i + 1) fence)) (c.insert.ensures ∙ joining_sensor n.count x met new n.most)
     ∙ sym (distinct_met n.count met fence i true c.loop-x-test.true (sym new)) ∙ c.loop-x.invariant

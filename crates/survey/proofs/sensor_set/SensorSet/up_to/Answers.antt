@@ -18,7 +18,7 @@ loop-x-init c = (c.empty-set.ensures ∙ fun_ext up_to_none, omega arith, omega 
 pub loop-x-preserved : goal.loop-x-preserved
 loop-x-preserved c =
     let x = c.loop-x.x in
-    (c.with-set.ensures ∙ ap (joining x) c.loop-x.invariant.0 ∙ fun_ext (λ y. up_to_more x y (omega arith) (omega arith)), omega arith, omega arith)
+    (c.insert.ensures ∙ ap (joining x) c.loop-x.invariant.0 ∙ fun_ext (λ y. up_to_more x y (omega arith) (omega arith)), omega arith, omega arith)
 
 pub returns : goal.returns
 returns c = let e : c.loop-x.x - 1 ≡ min c.args.count 64 = omega arith in c.loop-x.invariant.0 ∙ ap up_to e
@@ -27,4 +27,4 @@ pub returns-2 : goal.returns-2
 returns-2 c =
     let x = c.loop-x.x in
     let e : x + 1 - 1 ≡ min c.args.count 64 = omega arith in
-    c.with-set.ensures ∙ ap (joining x) c.loop-x.invariant.0 ∙ fun_ext (λ y. up_to_more x y (omega arith) (omega arith)) ∙ ap up_to e
+    c.insert.ensures ∙ ap (joining x) c.loop-x.invariant.0 ∙ fun_ext (λ y. up_to_more x y (omega arith) (omega arith)) ∙ ap up_to e
