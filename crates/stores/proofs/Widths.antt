@@ -18,6 +18,13 @@ whole Two = refl
 whole Four = refl
 whole Eight = refl
 
+-- so many bits as a byte has them for each of its codes
+pub bits_back : (w : EntryWidth) → 8 / per_byte_of (bits_of w) ≡ bits_of w
+bits_back One = refl
+bits_back Two = refl
+bits_back Four = refl
+bits_back Eight = refl
+
 pos_factor : (w k : ℕ) → w * k ≡ 8 → (0 < w) × (0 < k)
 pos_factor zero k e = absurd (omega arith)
 pos_factor (suc w) zero e = absurd (omega arith)

@@ -59,6 +59,7 @@ impl<'a> Grid for Dense<'a> {
         self.shape.columns
     }
 
+    #[inline(always)]
     fn entry(&self, row: u32, column: u32) -> u16 {
         match self.shape.place(row, column) {
             Some(at) => read(self.bytes, self.width, at) as u16,
@@ -67,6 +68,7 @@ impl<'a> Grid for Dense<'a> {
     }
 
     // Goes by places, and passes an empty byte whole.
+    #[inline(always)]
     fn next_nonzero(&self, column: u32, first: u32) -> Option<u32> {
         let top = self.shape.place(1, column)?;
         let start = top + first.saturating_sub(1) as usize;
@@ -93,6 +95,8 @@ impl<'a> Store for Dense<'a> {
         Ok(())
     }
 
+    // In place where it is called, so that an addition to an entry finds its byte once.
+    #[inline(always)]
     fn put(&mut self, row: u32, column: u32, code: u16) -> Result<(), Refusal> {
         let at = self.shape.place(row, column).ok_or(Refusal::OutsideShape)?;
         if code as u32 >= self.width.bound() {
