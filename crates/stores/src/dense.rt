@@ -7,7 +7,7 @@ ghost use Rattle.stores.specs.Packed.{code_at, per_byte_of, bytes_for};
 ghost use Rattle.stores.specs.Dense.{matrix_of, terms_of};
 ghost use Rattle.stores.specs.Widths.{bits_of};
 
-use crate::packed::{read, scan, write};
+use crate::packed::{read, scan, scan_back, write};
 use crate::width::EntryWidth;
 use matrix::grid::Grid;
 use matrix::layout::{Shape, not_zero};
@@ -75,6 +75,14 @@ impl<'a> Grid for Dense<'a> {
         let end = top + self.shape.rows as usize;
         let found = scan(self.bytes, self.width, start, end)?;
         Some((found - top) as u32 + 1)
+    }
+
+    // The same backwards.
+    fn last_nonzero(&self, column: u32, last: u32) -> Option<u32> {
+        let start = self.shape.place(1, column)?;
+        let end = start + last.min(self.shape.rows) as usize;
+        let found = scan_back(self.bytes, self.width, start, end)?;
+        Some((found - start) as u32 + 1)
     }
 }
 

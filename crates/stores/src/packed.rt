@@ -1,6 +1,6 @@
 // Codes of a few bits each in bytes that are lent. Bytes and width stay two arguments: a struct of both would be made for one call each time.
 ghost use Rattle.std.specs.Prelude.{◌≡◌, ℕ, ◌+◌, ◌-◌, ◌*◌, ◌/◌, ◌%◌, ◌^◌, ◌<◌, ◌≤◌, length, if◌then◌else◌, nat_eq, slice_index};
-ghost use Rattle.stores.specs.Packed.{code_in, code_at, per_byte_of, Scanned, replaced};
+ghost use Rattle.stores.specs.Packed.{code_in, code_at, per_byte_of, Scanned, ScannedBack, replaced};
 ghost use Rattle.stores.specs.Widths.{bits_of};
 
 use crate::width::EntryWidth;
@@ -49,6 +49,29 @@ pub(crate) fn scan(bytes: &[u8], width: EntryWidth, start: usize, end: usize) ->
             place = first_nonzero(bytes, place / per + 1, (end - 1) / per + 1)? * per;
         } else if code_of(byte, bits, (place % per) as u32) == 0 {
             place += 1;
+        } else {
+            return Some(place);
+        }
+    }
+    None
+}
+
+// The last place from `start` on, before `end`, whose code is not 0. It passes an empty byte whole.
+pub(crate) fn scan_back(bytes: &[u8], width: EntryWidth, start: usize, end: usize) -> Option<usize>
+    requires { end ≤ length bytes.now * per_byte_of (bits_of width) }
+    ensures { ScannedBack (code_at (bits_of width) bytes.now) start end result }
+{
+    let per = width.per_byte() as usize;
+    let bits = width.bits();
+    // The places from this one on are passed. A `while`, as in `scan`.
+    let mut passed = end;
+    while passed > start {
+        let place = passed - 1;
+        let byte = bytes[place / per];
+        if byte == 0 {
+            passed = place - place % per;
+        } else if code_of(byte, bits, (place % per) as u32) == 0 {
+            passed = place;
         } else {
             return Some(place);
         }
