@@ -93,7 +93,6 @@ fn with_code(byte: u8, bits: u32, k: u32, code: u8) -> u8
     ensures { result ≡ replaced byte (bits * k) bits code }
 {
     let low = 1u32 << (bits * k);
-    let high = 1u32 << (bits * k + bits);
-    let byte = byte as u32;
-    (byte / high * high + code as u32 * low + byte % low) as u8
+    let old = code_of(byte, bits, k) as u32 * low;
+    (byte as u32 - old + code as u32 * low) as u8
 }
