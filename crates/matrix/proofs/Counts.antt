@@ -113,7 +113,7 @@ tally_2_none f n (suc k) h = omega (arith, tally_2_none f n k h, tally_none (λ 
 pub count_blank : (n k : ℕ) → count (blank n k) ≡ 0
 count_blank n k = tally_2_none (λ _ _. 0) n k (λ r c. refl)
 
-count_empty : (f : ℕ → ℕ → ℕ) → tally_2 f 0 0 ≡ 0
+pub count_empty : (f : ℕ → ℕ → ℕ) → tally_2 f 0 0 ≡ 0
 unfolding tally_2
 count_empty f = refl
 

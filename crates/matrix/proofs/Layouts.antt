@@ -19,6 +19,10 @@ pub record In (n k i j : ℕ) : Type 0 where
   pub column_from : 1 ≤ j
   pub column_to : j ≤ k
 
+-- as code tests it
+pub in_from : (n k i j : ℕ) → (i ≡ 0 → ⊥) → i ≤ n → (j ≡ 0 → ⊥) → j ≤ k → In n k i j
+in_from n k i j a b c d = record { row_from = omega (arith, a); row_to = b; column_from = omega (arith, c); column_to = d }
+
 pub is_in : (n k i j : ℕ) → inside n k i j ≡ true → In n k i j
 is_in n k i j e =
     let ps = and_parts (leb 1 i && leb i n) (leb 1 j && leb j k) e in
@@ -131,6 +135,10 @@ pub changed_leaves : (t : Terms) {n k : ℕ} {f g : ℕ → ℕ} {i j v p : ℕ}
 changed_leaves t {n} {k} {f} {g} {i} {j} {v} {p} limit code h =
     put_done t (laid n k f) (laid n k g) (put_at i j v) (laid_accepts t n k f i j v limit h.inside code) (changed_put n k f g i j v p h)
 
+-- the same, with every argument named
+pub changed_leaves_at : (t : Terms) (n k : ℕ) (f g : ℕ → ℕ) (i j v p : ℕ) → limit_of t (laid n k f) ≡ n * k → v < t.bound → Changed n k f g i j v p → laid n k g ≡ put_after t (laid n k f) (put_at i j v)
+changed_leaves_at t n k f g i j v p limit code h = changed_leaves t limit code h
+
 -- the count that code keeps: the new code counted, and no more the old
 pub changed_counts : {n k : ℕ} {f g : ℕ → ℕ} {i j v p used new old : ℕ} → Changed n k f g i j v p → used ≡ count (laid n k f) → new ≡ one_if_not_zero v → old ≡ one_if_not_zero (f p)
     → (old ≤ used + new) × (used + new - old ≡ count (laid n k g))
@@ -142,6 +150,11 @@ changed_counts {n} {k} {f} {g} {i} {j} {v} {p} {used} h e is was =
     ∙ count_put (laid n k f) (put_at i j v) (in_is n k i j h.inside)
     ∙ ap (λ u. u + one_if_not_zero v) (sym e) in
     (omega (arith, both), omega (arith, both))
+
+-- the same, with every argument named
+pub changed_counts_at : (n k : ℕ) (f g : ℕ → ℕ) (i j v p used new old : ℕ) → Changed n k f g i j v p → used ≡ count (laid n k f) → new ≡ one_if_not_zero v → old ≡ one_if_not_zero (f p)
+    → (old ≤ used + new) × (used + new - old ≡ count (laid n k g))
+changed_counts_at n k f g i j v p used new old h e is was = changed_counts h e is was
 
 -- and the sum on the way fits
 pub counts_fit : (n k : ℕ) (f : ℕ → ℕ) (v used new : ℕ) → n < 2 ^ 32 → k < 2 ^ 32 → used ≡ count (laid n k f) → new ≡ one_if_not_zero v → used + new < 2 ^ 64

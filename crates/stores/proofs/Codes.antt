@@ -3,7 +3,7 @@ use Rattle.std.proofs.Common.{◌≡◌, ℕ, ◌+◌, ◌-◌, ◌*◌, ◌/◌
 use native.Mathlib.Nat.{add-mul-mod_self_right}
 use lib.Arith.{digits_lt}
 use Rattle.std.proofs.lemmas.Bool.{cases_eq, cases_order, cond-true, cond-false, eq-eqb, ne_eqb}
-use Rattle.std.proofs.lemmas.Nat.{pow_pos, pow-add, shr-shr, shr_high, mod_low, field_of, shr_below, mod_below, div-add-mod', mul-le}
+use Rattle.std.proofs.lemmas.Nat.{pow_pos, pow-add, shr-shr, shr_split, shr_high, mod-pow-add, mod_low, field_of, shr_below, mod_below, div-add-mod', mul-le}
 use Rattle.stores.specs.Packed.{code_in, code_at, per_byte_of, replaced}
 
 low_lt : (x e b v : ℕ) → v < 2 ^ b → v * 2 ^ e + x % 2 ^ e < 2 ^ (e + b)
@@ -20,6 +20,12 @@ replaced_lt x e b v small room h =
 replaced_as : (x e b v : ℕ) → replaced x e b v ≡ (x / 2 ^ (e + b) * 2 ^ b + v) * 2 ^ e + x % 2 ^ e
 replaced_as x e b v =
     omega (arith, add-mul (x / 2 ^ (e + b) * 2 ^ b) v (2 ^ e), mul_assoc (x / 2 ^ (e + b)) (2 ^ b) (2 ^ e), ap (λ n. x / 2 ^ (e + b) * n) (pow-add 2 e b ∙ mul_comm (2 ^ e) (2 ^ b)))
+
+-- as code replaces it: the old code taken away, and the new one added
+pub replaced_by : (x e b v : ℕ) → x - x / 2 ^ e % 2 ^ b * 2 ^ e + v * 2 ^ e ≡ replaced x e b v
+replaced_by x e b v =
+    let t : b + e ≡ e + b = omega arith in
+    omega (arith, shr_split x (e + b), mod-pow-add x b e, ap (λ n. x % 2 ^ n) t)
 
 here : (x e b v : ℕ) → v < 2 ^ b → replaced x e b v / 2 ^ e % 2 ^ b ≡ v
 here x e b v h =

@@ -1,7 +1,7 @@
 -- What the width of an entry says of bytes, codes and places.
 use Rattle.std.proofs.Common.{◌≡◌, ℕ, zero, suc, ◌+◌, ◌-◌, ◌*◌, ◌/◌, ◌%◌, ◌^◌, ◌<◌, ◌≤◌, min, List, get_or, sym, refl, ap, ◌∙◌, ⊎_elim, mul_assoc, mul_comm, add-mul, mul-add, arith}
 use native.Mathlib.Nat.{zero-div, zero-mod}
-use Rattle.std.proofs.lemmas.Nat.{mul-le, mod_below, div_below, div-add-mod'}
+use Rattle.std.proofs.lemmas.Nat.{mul-le, mod_below, div_below, div-add-mod', le-div}
 use Rattle.std.proofs.lemmas.Bool.{cases_lt, cases_eq}
 use Rattle.stores.specs.declared.width.EntryWidth.{EntryWidth}
 use Rattle.stores.specs.declared.width.EntryWidth.TheVariants.{One, Two, Four, Eight}
@@ -17,6 +17,13 @@ whole One = refl
 whole Two = refl
 whole Four = refl
 whole Eight = refl
+
+-- so many bits as a byte has them for each of its codes
+pub bits_back : (w : EntryWidth) → 8 / per_byte_of (bits_of w) ≡ bits_of w
+bits_back One = refl
+bits_back Two = refl
+bits_back Four = refl
+bits_back Eight = refl
 
 pos_factor : (w k : ℕ) → w * k ≡ 8 → (0 < w) × (0 < k)
 pos_factor zero k e = absurd (omega arith)
@@ -118,3 +125,13 @@ module _ (w per : ℕ) (h : Whole w) (is : per ≡ per_byte_of w) where
         (cases_eq (q / per) (p / per))))
         (cases_lt q p),
   )
+
+  -- the same backwards: where the byte of the place before is empty, so are its places
+  pub passed_back : (xs : List ℕ) (a end : ℕ) → get_or xs (a / per) 0 ≡ 0 → ((q : ℕ) → a < q → q < end → code_at w xs q ≡ 0)
+      → (q : ℕ) → a / per * per ≤ q → q < end → code_at w xs q ≡ 0
+  passed_back xs a end empty passed q l b = ⊎_elim
+      (λ (after : a < q). passed q after b)
+      (λ (before : q ≤ a).
+      let same : q / per ≡ a / per = omega (arith, byte_le per q a pos before, le-div (a / per) q per pos l) in
+      code_at_none w xs q (ap (λ x. get_or xs (q / x) 0) (sym is) ∙ ap (λ x. get_or xs x 0) same ∙ empty))
+      (cases_lt a q)

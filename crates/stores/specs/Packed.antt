@@ -32,3 +32,8 @@ replaced byte e w v = byte / 2 ^ (e + w) * 2 ^ (e + w) + v * 2 ^ e + byte % 2 ^ 
 abbrev pub Scanned : (ℕ → ℕ) → ℕ → ℕ → Option ℕ → Type 0
 Scanned f start end None = (q : ℕ) → start ≤ q → q < end → f q ≡ 0
 Scanned f start end (Some r) = (start ≤ r) × (r < end) × (f r ≢ 0) × ((q : ℕ) → start ≤ q → q < r → f q ≡ 0)
+
+-- the same of the last place
+abbrev pub ScannedBack : (ℕ → ℕ) → ℕ → ℕ → Option ℕ → Type 0
+ScannedBack f start end None = (q : ℕ) → start ≤ q → q < end → f q ≡ 0
+ScannedBack f start end (Some r) = (start ≤ r) × (r < end) × (f r ≢ 0) × ((q : ℕ) → r < q → q < end → f q ≡ 0)

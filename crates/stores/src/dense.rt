@@ -7,7 +7,7 @@ ghost use Rattle.stores.specs.Packed.{code_at, per_byte_of, bytes_for};
 ghost use Rattle.stores.specs.Dense.{matrix_of, terms_of};
 ghost use Rattle.stores.specs.Widths.{bits_of};
 
-use crate::packed::{read, scan, write};
+use crate::packed::{read, scan, scan_back, write};
 use crate::width::EntryWidth;
 use matrix::grid::Grid;
 use matrix::layout::{Shape, not_zero};
@@ -59,6 +59,7 @@ impl<'a> Grid for Dense<'a> {
         self.shape.columns
     }
 
+    #[inline(always)]
     fn entry(&self, row: u32, column: u32) -> u16 {
         match self.shape.place(row, column) {
             Some(at) => read(self.bytes, self.width, at) as u16,
@@ -67,12 +68,21 @@ impl<'a> Grid for Dense<'a> {
     }
 
     // Goes by places, and passes an empty byte whole.
+    #[inline(always)]
     fn next_nonzero(&self, column: u32, first: u32) -> Option<u32> {
         let top = self.shape.place(1, column)?;
         let start = top + first.saturating_sub(1) as usize;
         let end = top + self.shape.rows as usize;
         let found = scan(self.bytes, self.width, start, end)?;
         Some((found - top) as u32 + 1)
+    }
+
+    // The same backwards.
+    fn last_nonzero(&self, column: u32, last: u32) -> Option<u32> {
+        let start = self.shape.place(1, column)?;
+        let end = start + last.min(self.shape.rows) as usize;
+        let found = scan_back(self.bytes, self.width, start, end)?;
+        Some((found - start) as u32 + 1)
     }
 }
 
@@ -93,6 +103,8 @@ impl<'a> Store for Dense<'a> {
         Ok(())
     }
 
+    // In place where it is called, so that an addition to an entry finds its byte once.
+    #[inline(always)]
     fn put(&mut self, row: u32, column: u32, code: u16) -> Result<(), Refusal> {
         let at = self.shape.place(row, column).ok_or(Refusal::OutsideShape)?;
         if code as u32 >= self.width.bound() {

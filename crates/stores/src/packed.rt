@@ -1,6 +1,6 @@
 // Codes of a few bits each in bytes that are lent. Bytes and width stay two arguments: a struct of both would be made for one call each time.
 ghost use Rattle.std.specs.Prelude.{◌≡◌, ℕ, ◌+◌, ◌-◌, ◌*◌, ◌/◌, ◌%◌, ◌^◌, ◌<◌, ◌≤◌, length, if◌then◌else◌, nat_eq, slice_index};
-ghost use Rattle.stores.specs.Packed.{code_in, code_at, per_byte_of, Scanned, replaced};
+ghost use Rattle.stores.specs.Packed.{code_in, code_at, per_byte_of, Scanned, ScannedBack, replaced};
 ghost use Rattle.stores.specs.Widths.{bits_of};
 
 use crate::width::EntryWidth;
@@ -24,7 +24,8 @@ pub(crate) fn write(bytes: &mut [u8], width: EntryWidth, place: usize, code: u8)
     bytes[at] = with_code(bytes[at], width.bits(), (place % per) as u32, code);
 }
 
-// The first byte from `start` on, before `end`, that is not 0.
+// The first byte from `start` on, before `end`, that is not 0. Kept out of `scan`, where each byte takes a fifth more instructions.
+#[inline(never)]
 fn first_nonzero(bytes: &[u8], start: usize, end: usize) -> Option<usize>
     requires { (start ≤ end) × (end ≤ length bytes.now) }
     ensures { Scanned (λ i. slice_index bytes.now i) start end result }
@@ -39,14 +40,38 @@ pub(crate) fn scan(bytes: &[u8], width: EntryWidth, start: usize, end: usize) ->
     ensures { Scanned (code_at (bits_of width) bytes.now) start end result }
 {
     let per = width.per_byte() as usize;
+    let bits = width.bits();
     // A `while`, since it goes on by a place or by whole bytes.
     let mut place = start;
     while place < end {
         let byte = bytes[place / per];
         if byte == 0 {
             place = first_nonzero(bytes, place / per + 1, (end - 1) / per + 1)? * per;
-        } else if code_of(byte, width.bits(), (place % per) as u32) == 0 {
+        } else if code_of(byte, bits, (place % per) as u32) == 0 {
             place += 1;
+        } else {
+            return Some(place);
+        }
+    }
+    None
+}
+
+// The last place from `start` on, before `end`, whose code is not 0. It passes an empty byte whole.
+pub(crate) fn scan_back(bytes: &[u8], width: EntryWidth, start: usize, end: usize) -> Option<usize>
+    requires { end ≤ length bytes.now * per_byte_of (bits_of width) }
+    ensures { ScannedBack (code_at (bits_of width) bytes.now) start end result }
+{
+    let per = width.per_byte() as usize;
+    let bits = width.bits();
+    // The places from this one on are passed. A `while`, as in `scan`.
+    let mut passed = end;
+    while passed > start {
+        let place = passed - 1;
+        let byte = bytes[place / per];
+        if byte == 0 {
+            passed = place - place % per;
+        } else if code_of(byte, bits, (place % per) as u32) == 0 {
+            passed = place;
         } else {
             return Some(place);
         }
@@ -68,7 +93,6 @@ fn with_code(byte: u8, bits: u32, k: u32, code: u8) -> u8
     ensures { result ≡ replaced byte (bits * k) bits code }
 {
     let low = 1u32 << (bits * k);
-    let high = 1u32 << (bits * k + bits);
-    let byte = byte as u32;
-    (byte / high * high + code as u32 * low + byte % low) as u8
+    let old = code_of(byte, bits, k) as u32 * low;
+    (byte as u32 - old + code as u32 * low) as u8
 }

@@ -1,5 +1,5 @@
 // How many bits an entry has.
-ghost use Rattle.std.specs.Prelude.{◌≡◌, ◌^◌};
+ghost use Rattle.std.specs.Prelude.{◌≡◌, ◌^◌, ◌<◌};
 ghost use Rattle.refusal.specs.Outcomes.{outcome};
 ghost use Rattle.stores.specs.Packed.{entry_width, per_byte_of};
 ghost use Rattle.stores.specs.Widths.{bits_of};
@@ -39,11 +39,12 @@ impl EntryWidth {
         EntryWidth::try_from(w)
     }
 
-    // The number of bits.
+    // The number of bits. By a shift, as the number of codes in a byte: `self as u32` is looked up in a table at each entry, and `8 / bits` a
+    // division.
     pub(crate) fn bits(self) -> u32
         ensures { result ≡ bits_of self }
     {
-        self as u32
+        8 >> self.doublings()
     }
 
     // What the codes of so many bits are below.
@@ -57,6 +58,19 @@ impl EntryWidth {
     pub(crate) fn per_byte(self) -> u32
         ensures { result ≡ per_byte_of (bits_of self) }
     {
-        8 / self.bits()
+        1 << self.doublings()
+    }
+
+    // How often 1 is doubled to that number.
+    fn doublings(self) -> u32
+        ensures power { 2 ^ result ≡ per_byte_of (bits_of self) }
+        ensures small { result < 4 }
+    {
+        match self {
+            EntryWidth::One => 3,
+            EntryWidth::Two => 2,
+            EntryWidth::Four => 1,
+            EntryWidth::Eight => 0,
+        }
     }
 }
