@@ -1,10 +1,18 @@
--- The members are those of 1 to 64 that pass.
-use Rattle.std.proofs.Common.{rules, refl}
-use Rattle.survey.specs.Lists.{numbers}
+-- A member is counted when it is met.
+use Rattle.std.proofs.Common.{true, false, arith}
 use Rattle.survey.specs.Sets.{set_of, members}
-use Rattle.survey.proofs.Ranges.{counted, inclusive}
+use Rattle.survey.proofs.Walks.{ahead_if}
 use Rattle.survey.proofs.sensor_set.SensorSet.count.Goals as goal
+use Rattle.survey.proofs.sensor_set.SensorSet.count.Goals.{then-member, else-member}
 
-pub returns : goal.returns
+pub loop-x-init : goal.loop-x-init
 unfolding members
-returns c = counted (numbers 1 64) (set_of c.args.self.now) (λ x. x) (inclusive c.new.ensures refl) c.count.ensures.ran c.filter.ensures.source c.filter.ensures.closure (λ x r f k. search rules)
+loop-x-init c = (omega arith, omega arith)
+
+pub loop-x-preserved : goal.loop-x-preserved
+loop-x-preserved c =
+    let on = set_of c.args.self.now in
+    elim c.if-member.branch [
+      | then-member w ↦ (omega (arith, w.count-is, ahead_if on (λ x. x) 65 _ true c.loop-x-test.true w.if-member.ensures), omega (arith, w.count-is))
+      | else-member w ↦ (omega (arith, w.count-is, ahead_if on (λ x. x) 65 _ false c.loop-x-test.true w.if-member.ensures), omega (arith, w.count-is))
+    ]
