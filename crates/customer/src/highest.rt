@@ -12,6 +12,8 @@ impl ThinningOrder for HighestFirst {
     ghost order = { λ _ s. highest_order s };
 
     fn pick(&self, survey: &Survey, candidates: &SensorSet) -> Option<u16> {
-        (1..=survey.count()).rev().find(|x| candidates.member(*x))
+        (1..survey.count() + 1)
+            .rev()
+            .find(|x| candidates.member(*x))
     }
 }

@@ -15,7 +15,7 @@ pub struct LinkOrder;
 pub fn degree(survey: &Survey, x: u16) -> u16
     ensures { result ≡ degree_in (survey_of survey.now) x }
 {
-    (1..=survey.count())
+    (1..survey.count() + 1)
         .filter(|y| survey.linked(x, *y))
         .count() as u16
 }
@@ -24,7 +24,7 @@ impl ThinningOrder for LinkOrder {
     ghost order = { λ _ s. link_order s };
 
     fn pick(&self, survey: &Survey, candidates: &SensorSet) -> Option<u16> {
-        (1..=survey.count())
+        (1..survey.count() + 1)
             .filter(|x| candidates.member(*x))
             .min_by_key(|x| degree(survey, *x))
     }

@@ -12,7 +12,7 @@ impl ThinningOrder for NumberOrder {
     ghost order = { λ _ s. number_order s };
 
     fn pick(&self, survey: &Survey, candidates: &SensorSet) -> Option<u16> {
-        (1..=survey.count()).find(|x| candidates.member(*x))
+        (1..survey.count() + 1).find(|x| candidates.member(*x))
     }
 }
 

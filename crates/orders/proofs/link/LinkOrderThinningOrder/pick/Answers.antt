@@ -1,9 +1,10 @@
 -- The key is the number of links.
-use Rattle.std.proofs.Common.{◌∙◌, rules}
+use Rattle.std.proofs.Common.{refl, ◌∙◌, rules}
+use Rattle.std.proofs.lemmas.Iterator.Consumers.{YieldsList-at, YieldsList-from_filter}
 use Rattle.survey.specs.Plans.{survey_of}
 use Rattle.survey.specs.Sets.{set_of}
 use Rattle.survey.specs.Surveys.{degree, sensors}
-use Rattle.survey.proofs.Numbers.{YieldsList-from_passing}
+use Rattle.survey.proofs.Ranges.{below_next}
 use Rattle.orders.proofs.Chains.{least_filtered, least_from_min_by_key}
 use Rattle.orders.proofs.link.LinkOrderThinningOrder.pick.Goals as goal
 
@@ -12,6 +13,5 @@ returns c =
     let s = survey_of c.args.survey.now in
     let p = set_of c.args.candidates.now in
     least_from_min_by_key (degree s) _ _ (λ x k q h. search rules) c.min_by_key.result c.min_by_key.ensures.ran
-    (YieldsList-from_passing p s.count c.filter.ensures.source c.new.ensures.start (c.new.ensures.end ∙ c.count.ensures.value) c.new.ensures.exhausted
-    c.filter.ensures.closure (λ x b q k. search rules))
+    (YieldsList-from_filter _ p (YieldsList-at c.filter.ensures.source (below_next refl c.count.ensures.value)) c.filter.ensures.closure (λ x b q k. search rules))
     ∙ least_filtered (degree s) p (sensors s)
