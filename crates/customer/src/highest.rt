@@ -12,8 +12,10 @@ impl ThinningOrder for HighestFirst {
     ghost order = { λ _ s. highest_order s };
 
     fn pick(&self, survey: &Survey, candidates: &SensorSet) -> Option<u16> {
-        (1..survey.count() + 1)
+        // Counted from 0, since the test for the end is cheapest at 0.
+        (0..survey.count())
             .rev()
+            .map(|x| x + 1)
             .find(|x| candidates.member(*x))
     }
 }

@@ -15,9 +15,10 @@ pub struct LinkOrder;
 pub fn degree(survey: &Survey, x: u16) -> u16
     ensures { result ≡ degree_in (survey_of survey.now) x }
 {
+    // A sum, since to filter and count branches at each link.
     (1..survey.count() + 1)
-        .filter(|y| survey.linked(x, *y))
-        .count() as u16
+        .map(|y| u16::from(survey.linked(x, y)))
+        .sum()
 }
 
 impl ThinningOrder for LinkOrder {

@@ -12,7 +12,10 @@ impl ThinningOrder for NumberOrder {
     ghost order = { λ _ s. number_order s };
 
     fn pick(&self, survey: &Survey, candidates: &SensorSet) -> Option<u16> {
-        (1..survey.count() + 1).find(|x| candidates.member(*x))
+        // Counted from 0 and raised, which leaves `member` a single test of its bounds.
+        (0..survey.count())
+            .map(|x| x + 1)
+            .find(|x| candidates.member(*x))
     }
 }
 
